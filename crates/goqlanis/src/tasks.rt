@@ -3,7 +3,7 @@
 use clap::ArgMatches;
 use clap::error::{Error, ErrorKind};
 use goqlanis_files::failure::{Failure, status};
-use goqlanis_files::streams::{Escapes, print};
+use goqlanis_files::streams::{EscapedBytes, print};
 use goqlanis_files::{refused, usage};
 use goqlanis_help::advice::{advise, wrapped_help};
 use goqlanis_help::command::{command_of, end_of_help, usage_of};
@@ -89,7 +89,7 @@ fn refuse(rt: &HostRuntime, task: &Task, words: &[String], error: &Error) -> Don
     if !error.use_stderr() {
         return print(rt, wrapped_help(rt.alloc(), text.as_str())?.as_bytes());
     }
-    let shown = Escapes {
+    let shown = EscapedBytes {
         bytes: text.as_bytes(),
         has_lines: true,
     };

@@ -7,11 +7,11 @@ use Rattle.std.proofs.lemmas.List.FromFn.{length-map-range_with_len}
 use Rattle.std.proofs.lemmas.Fmt.{decimal_digit}
 use Rattle.std.proofs.lemmas.Nat.{row_fits_turned}
 use Rattle.qrcode_types.specs.declared.types.Color.{Color}
-use Rattle.qrcode_formats.specs.Formats.{row}
-use Rattle.qrcode_formats.specs.declared.Colours.TheVariants.{Fixed}
-use Rattle.qrcode_formats.specs.declared.Format.{Format}
-use Rattle.qrcode_formats.specs.declared.Format.TheVariants.{EscPos, Grey, Pbm, Pgm, Ppm, Tspl, Xbm}
-use Rattle.qrcode_sheets.specs.Formats.{IsDrawn}
+use Rattle.qrcode_sheets.specs.Formats.{row}
+use Rattle.qrcode_sheets.specs.declared.formats.Colours.TheVariants.{Fixed}
+use Rattle.qrcode_sheets.specs.declared.formats.Format.{Format}
+use Rattle.qrcode_sheets.specs.declared.formats.Format.TheVariants.{EscPos, Grey, Pbm, Pgm, Ppm, Tspl, Xbm}
+use Rattle.qrcode_sheets.specs.Drawn.{IsSheetFile}
 use Rattle.qrcode_sheets.specs.Sheets.{rgb}
 use Rattle.goqlanis_buffers.specs.Asking.{grey_head, known_length, side_of, HasLength, IsDrawable}
 use Rattle.goqlanis_buffers.specs.Colours.{colour_shade}
@@ -91,7 +91,7 @@ abbrev pub at_of : Asked → Layout  -- how the pixels of what is asked for lie
 at_of a = layout a.width a.drawing.now.zone a.drawing.now.scale a.drawing.now.scale
 
 -- a drawing in a format without colours of parts has the length that is computed
-drawn_length : (a : Asked) (f : Format) (bytes : List ℕ) (count : ℕ) → (row f).parts ≡ Fixed → IsDrawable a f → IsDrawn f (sheet f a.modules.now a.width a.drawing.now []) bytes
+drawn_length : (a : Asked) (f : Format) (bytes : List ℕ) (count : ℕ) → (row f).parts ≡ Fixed → IsDrawable a f → IsSheetFile f (sheet f a.modules.now a.width a.drawing.now []) bytes
     → length bytes ≡ count → HasLength a count
 drawn_length a f bytes count fixed h drawn long =
     let none = no_paints f a.drawing.now fixed h.sayable in (

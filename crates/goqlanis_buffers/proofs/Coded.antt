@@ -11,7 +11,7 @@ use Rattle.goqlanis_buffers.specs.Symbols.{IsMaskingCause}
 use Rattle.goqlanis_buffers.specs.declared.answers.Fault.{Fault}
 use Rattle.goqlanis_buffers.specs.declared.answers.Fault.TheVariants.{At, Other}
 use Rattle.goqlanis_buffers.specs.declared.answers.Refusal.{Refusal}
-use Rattle.goqlanis_buffers.specs.declared.options.Asked.{Asked}
+use Rattle.goqlanis_buffers.specs.declared.options.CodeSettings.{CodeSettings}
 use Rattle.goqlanis_buffers.specs.declared.options.Options.{Options}
 
 -- each set lacks a character, and the first of them this one first
@@ -22,7 +22,7 @@ lacked sets text set (Some place) none at first =
     record { none = none; set = set; first = at; within = first.0; before = first.1; lacks = first.2 }
 
 -- the text has no symbol in the sets
-pub uncoded : {o : Options} {numbers utf8 : List ℕ} (room : ℕ) (a : Asked) (sets : List Charset) (text : List ℕ) (why : Fault)
+pub uncoded : {o : Options} {numbers utf8 : List ℕ} (room : ℕ) (a : CodeSettings) (sets : List Charset) (text : List ℕ) (why : Fault)
     → IsAskedOf o numbers a sets → text ≡ utf8 → IsUtf8 utf8 → IsUncodedIn a sets text why → IsUncoded o numbers utf8 room why
 uncoded room a sets text (At place refusal) named same is cause =
     inr (record { asked = a; sets = sets; named = named; text = is; cause = subst (λ u. IsUncodedIn a sets u (At place refusal)) same cause })
@@ -30,7 +30,7 @@ uncoded room a sets text (Other refusal) named same is cause =
     inr (inr (inr (inl (record { asked = a; sets = sets; named = named; text = is; cause = subst (λ u. IsUncodedIn a sets u (Other refusal)) same cause }))))
 
 -- a symbol of the text is not written
-pub unwritten : {o : Options} {numbers utf8 : List ℕ} {room : ℕ} {refusal : Refusal} (a : Asked) (sets : List Charset) (set : Charset) (own : Code) (text : List ℕ)
+pub unwritten : {o : Options} {numbers utf8 : List ℕ} {room : ℕ} {refusal : Refusal} (a : CodeSettings) (sets : List Charset) (set : Charset) (own : Code) (text : List ℕ)
     → IsAskedOf o numbers a sets → text ≡ utf8 → IsUtf8 utf8 → IsShortestOf a.choice sets a.level (chars text) set own → IsMaskingCause a.mask own room refusal
     → IsNotWritten o numbers utf8 room refusal
 unwritten a sets set own text named same is made cause =

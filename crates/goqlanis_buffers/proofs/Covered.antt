@@ -8,10 +8,10 @@ use Rattle.qrcode_types.specs.declared.types.Color.TheVariants.{Light}
 use Rattle.qrcode_types.specs.declared.types.EcLevel.{EcLevel}
 use Rattle.qrcode_types.specs.declared.types.Version.{Version}
 use Rattle.goqlanis_buffers.specs.Shades.{colors_of}
-use Rattle.qrcode_area.specs.Areas.{AgreesOutside, MayShowAnything}
-use Rattle.qrcode_area.specs.Reserves.{IsItsExcess}
-use Rattle.qrcode_area.specs.declared.excess.Excess.{Excess}
-use Rattle.qrcode_area.proofs.Bounds.{excess_is_not}
+use Rattle.qrcode_damage.specs.Areas.{AgreesOutside, MayShowAnything}
+use Rattle.qrcode_damage.specs.Reserves.{IsItsExcess}
+use Rattle.qrcode_damage.specs.declared.excess.Excess.{Excess}
+use Rattle.qrcode_damage.proofs.Bounds.{excess_is_not}
 use Rattle.goqlanis_buffers.specs.Areas.{covered_byte}
 
 -- bytes that were made light in an area agree with the old ones outside of it

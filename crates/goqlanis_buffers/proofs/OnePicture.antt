@@ -8,7 +8,7 @@ use Rattle.qrcode_types.specs.declared.types.Color.{Color}
 use Rattle.qrcode_types.specs.declared.types.Color.TheVariants.{Light}
 use Rattle.qrcode_render.specs.Drawn.{drawn}
 use Rattle.qrcode_sheets.specs.Eps.{eps_paint, eps_rect}
-use Rattle.qrcode_sheets.specs.Formats.{eps_text, IsDrawn}
+use Rattle.qrcode_sheets.specs.Drawn.{eps_text, IsSheetFile}
 use Rattle.qrcode_sheets.specs.Layers.{is_tone, layer, order, shapes_in, unit_layout, AreLayers, AreOver}
 use Rattle.qrcode_sheets.specs.Parts.{part_of}
 use Rattle.qrcode_sheets.specs.Sheets.{Sheet, eps_ink}
@@ -16,8 +16,8 @@ use Rattle.qrcode_sheets.specs.declared.layers.PartInk.{PartInk}
 use Rattle.goqlanis_buffers.specs.Drawings.{sheet, IsPictureIn}
 use Rattle.goqlanis_buffers.specs.Tints.{ink_paint, Paint}
 use Rattle.goqlanis_buffers.specs.declared.pictures.Drawing.{Drawing}
-use Rattle.qrcode_formats.specs.declared.Format.{Format}
-use Rattle.qrcode_formats.specs.declared.Format.TheVariants.{Png, SvgPath, Eps, Pdf, Zpl}
+use Rattle.qrcode_sheets.specs.declared.formats.Format.{Format}
+use Rattle.qrcode_sheets.specs.declared.formats.Format.TheVariants.{Png, SvgPath, Eps, Pdf, Zpl}
 
 -- a layer depends on the modules, and on which of them get its colour
 layer_alike : (t : Sheet) (us ws : List PartInk) (j k : PartInk) → ink_paint j ≡ ink_paint k
@@ -44,7 +44,7 @@ over_alike t us ws a b same x y = x.1.1 ∙ ap (λ l. l ++ shapes_in t.over) (la
 
 -- a drawing with the same colours of parts has one picture
 alike : (f : Format) (t : Sheet) (us ws : List PartInk) (a b : List ℕ) → map ink_paint us ≡ map ink_paint ws → f ≢ Png → f ≢ SvgPath → f ≢ Pdf → f ≢ Zpl
-    → IsDrawn f (record t { parts = us }) a → IsDrawn f (record t { parts = ws }) b → a ≡ b
+    → IsSheetFile f (record t { parts = us }) a → IsSheetFile f (record t { parts = ws }) b → a ≡ b
 alike Eps t us ws a b same no_png no_path no_pdf no_zpl x y = x.1.1 ∙ ap (eps_text t) (over_alike t us ws x.0 y.0 same x.1.0 y.1.0) ∙ sym y.1.1
 alike Png t us ws a b same no_png no_path no_pdf no_zpl x y = absurd (no_png refl)
 alike SvgPath t us ws a b same no_png no_path no_pdf no_zpl x y = absurd (no_path refl)
@@ -52,7 +52,7 @@ alike Zpl t us ws a b same no_png no_path no_pdf no_zpl x y = absurd (no_zpl ref
 alike Pdf t us ws a b same no_png no_path no_pdf no_zpl x y = absurd (no_pdf refl)
 alike f t us ws a b same no_png no_path no_pdf no_zpl x y = x ∙ sym y
 
-pub one_picture : (f : Format) (t : Sheet) (a b : List ℕ) → f ≢ Png → f ≢ SvgPath → f ≢ Pdf → f ≢ Zpl → IsDrawn f t a → IsDrawn f t b → a ≡ b
+pub one_picture : (f : Format) (t : Sheet) (a b : List ℕ) → f ≢ Png → f ≢ SvgPath → f ≢ Pdf → f ≢ Zpl → IsSheetFile f t a → IsSheetFile f t b → a ≡ b
 one_picture f t a b no_png no_path no_pdf no_zpl x y = alike f t t.parts t.parts a b refl no_png no_path no_pdf no_zpl x y
 
 -- what C asks for has one picture

@@ -10,7 +10,7 @@ use Rattle.goqlanis_buffers.specs.Options.{HasNoSymbol, IsAsked, IsMadeAs, IsOpt
 use Rattle.goqlanis_buffers.specs.Segments.{refusal_in}
 use Rattle.goqlanis_buffers.specs.Symbols.{IsMaskingCause}
 use Rattle.goqlanis_buffers.specs.declared.answers.Refusal.{Refusal}
-use Rattle.goqlanis_buffers.specs.declared.options.Asked.{Asked}
+use Rattle.goqlanis_buffers.specs.declared.options.CodeSettings.{CodeSettings}
 use Rattle.goqlanis_buffers.specs.declared.options.Options.{Options}
 
 -- an error of the constructors is the cause of that error of a call with options
@@ -18,7 +18,7 @@ no_symbol : (o : Options) (bytes : List ℕ) (room : ℕ) (e : QrError) → HasN
 no_symbol o bytes room DataTooLong h = h
 no_symbol o bytes room e h = h
 
-pub refused_as : (o : Options) (a : Asked) (bytes : List ℕ) (e : QrError) (refusal : Refusal) → refusal ≡ refusal_in e → IsAsked o a
+pub refused_as : (o : Options) (a : CodeSettings) (bytes : List ℕ) (e : QrError) (refusal : Refusal) → refusal ≡ refusal_in e → IsAsked o a
     → (IsTrue (is_text a.manner) → IsUtf8 bytes) → IsRefusedFor a.choice a.manner a.level bytes e → (room : ℕ) → IsOptionsCause o bytes room refusal
 refused_as o a bytes e refusal is named text cause room =
     subst (IsOptionsCause o bytes room) (sym is) (no_symbol o bytes room e (record {
@@ -31,7 +31,7 @@ refused_as o a bytes e refusal is named text cause room =
     }))
 
 -- a missing mask or too small a buffer is the cause of that error of a call with options
-pub masked_as : (o : Options) (a : Asked) (bytes : List ℕ) (own : Code) (room : ℕ) (refusal : Refusal) → IsAsked o a → IsMadeAs a bytes own → IsMaskingCause a.mask own room refusal
+pub masked_as : (o : Options) (a : CodeSettings) (bytes : List ℕ) (own : Code) (room : ℕ) (refusal : Refusal) → IsAsked o a → IsMadeAs a bytes own → IsMaskingCause a.mask own room refusal
     → IsOptionsCause o bytes room refusal
 masked_as o a bytes own room refusal named made (inl is) =
     subst (IsOptionsCause o bytes room) (sym is) (record { asked = a; named = named; text = made.text; error = OutOfMemory; reported = refl; cause = inl refl })

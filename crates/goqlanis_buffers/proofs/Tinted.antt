@@ -2,13 +2,13 @@
 use Rattle.std.proofs.Common.{◌≡◌, ◌&&◌, ◌||◌, Bool, true, false, true≢false, IsTrue, suc, List, [], ◌∷◌, flat_map, length, map, refl, sym, ap, subst, ◌∙◌, arith}
 use Rattle.std.proofs.lemmas.Bool.{ne_eqb}
 use Rattle.std.specs.List.{list_all}
-use Rattle.qrcode_formats.specs.Formats.{row}
-use Rattle.qrcode_formats.specs.declared.Colours.{Colours}
-use Rattle.qrcode_formats.specs.declared.Colours.TheVariants.{Fixed}
-use Rattle.qrcode_formats.specs.declared.Format.{Format}
+use Rattle.qrcode_sheets.specs.Formats.{row}
+use Rattle.qrcode_sheets.specs.declared.formats.Colours.{Colours}
+use Rattle.qrcode_sheets.specs.declared.formats.Colours.TheVariants.{Fixed}
+use Rattle.qrcode_sheets.specs.declared.formats.Format.{Format}
 use Rattle.goqlanis_buffers.specs.Colours.{has_colours}
 use Rattle.goqlanis_buffers.specs.Drawings.{has_density, is_sayable}
-use Rattle.qrcode_sheets.specs.Formats.{are_own, takes_parts}
+use Rattle.qrcode_sheets.specs.Drawn.{are_own, takes_parts}
 use Rattle.qrcode_sheets.specs.declared.layers.PartInk.{PartInk}
 use Rattle.goqlanis_buffers.specs.Tints.{ink_paint, is_same, have_tints, may_be, paint_in, paints, tints}
 use Rattle.goqlanis_buffers.specs.declared.pictures.Drawing.{Drawing}

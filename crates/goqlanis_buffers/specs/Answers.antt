@@ -7,10 +7,10 @@ use Rattle.qrcode.specs.Reading.{ReadsOnly}
 use Rattle.qrcode.specs.Texts.{ShowsTextOnly}
 use Rattle.qrcode_reader.specs.Readings.{HasNoVersion, HasNoFormat, HasDamagedBlock, ShowsNothing, SpellsNothing}
 use Rattle.goqlanis_buffers.specs.Shades.{colors_of}
-use Rattle.qrcode_formats.specs.Formats.{format_numbered}
+use Rattle.qrcode_sheets.specs.Formats.{format_numbered}
 use Rattle.goqlanis_buffers.specs.Drawings.{has_side, is_sayable, IsPictureIn}
 use Rattle.goqlanis_buffers.specs.declared.pictures.Drawing.{Drawing}
-use Rattle.qrcode_formats.specs.declared.Format.{Format}
+use Rattle.qrcode_sheets.specs.declared.formats.Format.{Format}
 use Rattle.goqlanis_buffers.specs.Names.{level_named, IsLevelNamed, IsPairCause}
 use Rattle.goqlanis_buffers.specs.Readings.{Anywhere, IsReadAnywhere, IsReadNowhere}
 use Rattle.goqlanis_buffers.specs.Segments.{HasNoRoom, HaveNoRoom, IsFirstRefused}

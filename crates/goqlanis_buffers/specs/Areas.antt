@@ -11,14 +11,14 @@ use Rattle.qrcode.specs.Reading.{EncodesBits, EncodesBytes, ReadsOnly}
 use Rattle.qrcode_reader.specs.Formats.{HasFormat}
 use Rattle.qrcode_reader.specs.declared.formats.FormatCopy.TheVariants.{First, Last}
 use Rattle.goqlanis_buffers.specs.Shades.{colors_of}
-use Rattle.qrcode_area.specs.Areas.{AgreesOutside, KeepsFormat, LeavesReserve, MayShowAnything, covers, is_inside, touched}
-use Rattle.qrcode_area.specs.Counting.{touched_places}
-use Rattle.qrcode_area.specs.Rectangles.{IsLargest, NoneLarger}
-use Rattle.qrcode_area.specs.Refusals.{IsLostBlock}
-use Rattle.qrcode_area.specs.Reserves.{IsLeast}
-use Rattle.qrcode_area.specs.declared.areas.Rectangle.{Rectangle}
-use Rattle.qrcode_area.specs.declared.rectangles.Kept.TheVariants.{AllPatterns, ButAlignment}
-use Rattle.qrcode_area.specs.declared.rectangles.Wish as asked
+use Rattle.qrcode_damage.specs.Areas.{AgreesOutside, KeepsFormat, LeavesReserve, MayShowAnything, covers, is_inside, touched}
+use Rattle.qrcode_damage.specs.Counting.{touched_places}
+use Rattle.qrcode_damage.specs.Rectangles.{IsLargest, NoneLarger}
+use Rattle.qrcode_damage.specs.Refusals.{IsLostBlock}
+use Rattle.qrcode_damage.specs.Reserves.{IsLeast}
+use Rattle.qrcode_damage.specs.declared.areas.Rectangle.{Rectangle}
+use Rattle.qrcode_damage.specs.declared.rectangles.Kept.TheVariants.{AllPatterns, ButAlignment}
+use Rattle.qrcode_damage.specs.declared.rectangles.Wish as asked
 use Rattle.goqlanis_buffers.specs.Answers.{IsMaskCause}
 use Rattle.goqlanis_buffers.specs.Calls.{Tells, Writes}
 use Rattle.goqlanis_buffers.specs.Names.{IsLevelNamed, IsPairCause}

@@ -2,8 +2,8 @@
 use Rattle.std.specs.Prelude.{◌≡◌, ◌+◌, ◌*◌, ◌++◌, ℕ, List, [], Option, Some, None, codes, decimal, length, IsTrue}
 use Rattle.qrcode_sheets.specs.Files.{pbm_head}
 use Rattle.qrcode_sheets.specs.Printers.{bytes_across, escpos_head, tspl_head, tspl_tail, xbm_head, xbm_tail}
-use Rattle.qrcode_formats.specs.declared.Format.{Format}
-use Rattle.qrcode_formats.specs.declared.Format.TheVariants.{EscPos, Grey, Pbm, Pgm, Ppm, Tspl, Xbm}
+use Rattle.qrcode_sheets.specs.declared.formats.Format.{Format}
+use Rattle.qrcode_sheets.specs.declared.formats.Format.TheVariants.{EscPos, Grey, Pbm, Pgm, Ppm, Tspl, Xbm}
 use Rattle.goqlanis_buffers.specs.Answers.{HasSize, IsDrawingCause, IsOfSquare, IsPicture}
 use Rattle.goqlanis_buffers.specs.Drawings.{is_sayable}
 use Rattle.goqlanis_buffers.specs.Tints.{has_parts}

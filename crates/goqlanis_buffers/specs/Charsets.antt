@@ -17,7 +17,7 @@ use Rattle.goqlanis_buffers.specs.declared.answers.Fault.{Fault}
 use Rattle.goqlanis_buffers.specs.declared.answers.Fault.TheVariants.{At, Other}
 use Rattle.goqlanis_buffers.specs.declared.answers.Refusal.{Refusal}
 use Rattle.goqlanis_buffers.specs.declared.answers.Refusal.TheVariants as refusals
-use Rattle.goqlanis_buffers.specs.declared.options.Asked.{Asked}
+use Rattle.goqlanis_buffers.specs.declared.options.CodeSettings.{CodeSettings}
 use Rattle.goqlanis_buffers.specs.declared.options.Options.{Options}
 use Rattle.goqlanis_buffers.specs.declared.symbols.Symbol.{Symbol}
 
@@ -50,24 +50,24 @@ pub record IsLacked (sets : List Charset) (text : List ℕ) (place : ℕ) : Type
   pub lacks : ¬ Has set (take (place + 1) text)
 
 -- there is no symbol of the text in any of the sets, though one of them has its characters if a mode or ECI is to blame
-pub record IsNotCoded (a : Asked) (sets : List Charset) (utf8 : List ℕ) (refusal : Refusal) : Type 0 where
+pub record IsNotCoded (a : CodeSettings) (sets : List Charset) (utf8 : List ℕ) (refusal : Refusal) : Type 0 where
   pub error : QrError
   pub reported : refusal ≡ refusal_in error
   pub cause : IsShownOrRefused a.choice sets a.level utf8 (Err error)
   pub has : error ≡ UnsupportedCharacterSet → ¬ NoneHas sets (chars utf8)
 
-abbrev pub IsUncodedIn : Asked → List Charset → List ℕ → Fault → Type 0  -- why there is none
+abbrev pub IsUncodedIn : CodeSettings → List Charset → List ℕ → Fault → Type 0  -- why there is none
 IsUncodedIn a sets utf8 (At place refusal) = (refusal ≡ refusals.NotInSet) × IsLacked sets (chars utf8) place
 IsUncodedIn a sets utf8 (Other refusal) = IsNotCoded a sets utf8 refusal
 
 -- what is asked for, and the sets in which the text may be encoded
-pub record IsAskedOf (o : Options) (numbers : List ℕ) (a : Asked) (sets : List Charset) : Type 0 where
+pub record IsAskedOf (o : Options) (numbers : List ℕ) (a : CodeSettings) (sets : List Charset) : Type 0 where
   pub named : IsAsked o a
   pub sets_named : map number_of sets ≡ numbers_tried numbers
 
 -- the symbol of a text that options ask for, in the set with this number, under the mask that they ask for
 pub record IsCodedSymbol (o : Options) (numbers utf8 : List ℕ) (number : ℕ) (code : Code) : Type 0 where
-  pub asked : Asked
+  pub asked : CodeSettings
   pub sets : List Charset
   pub named : IsAskedOf o numbers asked sets
   pub text : IsUtf8 utf8
@@ -79,7 +79,7 @@ pub record IsCodedSymbol (o : Options) (numbers utf8 : List ℕ) (number : ℕ) 
 
 -- the symbol is not written under the mask that options ask for, into a buffer of `room` items
 pub record IsNotWritten (o : Options) (numbers utf8 : List ℕ) (room : ℕ) (refusal : Refusal) : Type 0 where
-  pub asked : Asked
+  pub asked : CodeSettings
   pub sets : List Charset
   pub named : IsAskedOf o numbers asked sets
   pub text : IsUtf8 utf8
@@ -90,7 +90,7 @@ pub record IsNotWritten (o : Options) (numbers utf8 : List ℕ) (room : ℕ) (re
 
 -- the options are valid, and the text has no symbol in the sets that are asked for
 pub record HasNoCode (o : Options) (numbers utf8 : List ℕ) (why : Fault) : Type 0 where
-  pub asked : Asked
+  pub asked : CodeSettings
   pub sets : List Charset
   pub named : IsAskedOf o numbers asked sets
   pub text : IsUtf8 utf8
@@ -99,11 +99,11 @@ pub record HasNoCode (o : Options) (numbers utf8 : List ℕ) (why : Fault) : Typ
 -- why a text is not encoded in a buffer of `room` items; of an unknown number, with its index; of a lacking character, with its place
 abbrev pub IsUncoded : Options → List ℕ → List ℕ → ℕ → Fault → Type 0
 IsUncoded o numbers utf8 room (At place refusal) =
-    (((a : Asked) × IsAsked o a) × HasUnknown numbers (At place refusal)) ⊎ HasNoCode o numbers utf8 (At place refusal)
+    (((a : CodeSettings) × IsAsked o a) × HasUnknown numbers (At place refusal)) ⊎ HasNoCode o numbers utf8 (At place refusal)
 IsUncoded o numbers utf8 room (Other refusal) =
     (refusal ≡ refusals.OutOfMemory)
     ⊎ (((bytes : List ℕ) (room : ℕ) → IsOptionsCause o bytes room refusal)
-    ⊎ (((refusal ≡ refusals.NotText) × (((a : Asked) × ((sets : List Charset) × IsAskedOf o numbers a sets)) × ¬ IsUtf8 utf8))
+    ⊎ (((refusal ≡ refusals.NotText) × (((a : CodeSettings) × ((sets : List Charset) × IsAskedOf o numbers a sets)) × ¬ IsUtf8 utf8))
     ⊎ (HasNoCode o numbers utf8 (Other refusal) ⊎ IsNotWritten o numbers utf8 room refusal)))
 
 -- writes the symbol of a text in the set with this number

@@ -2,10 +2,10 @@
 use Rattle.std.specs.Prelude.{ℕ, ◌-◌, ◌/◌, ◌%◌, ◌^◌, ◌==◌, nat_lt, ◌&&◌, Bool, true, false, List, [], ◌∷◌, ◌++◌, codes, if◌then◌else◌}
 use Rattle.std.specs.Fmt.{digit_glyph}
 use Rattle.qrcode_sheets.specs.Sheets.{Shade}
-use Rattle.qrcode_formats.specs.Formats.{row}
-use Rattle.qrcode_formats.specs.declared.Colours.{Colours}
-use Rattle.qrcode_formats.specs.declared.Colours.TheVariants.{Any, Opaque, Fixed}
-use Rattle.qrcode_formats.specs.declared.Format.{Format}
+use Rattle.qrcode_sheets.specs.Formats.{row}
+use Rattle.qrcode_sheets.specs.declared.formats.Colours.{Colours}
+use Rattle.qrcode_sheets.specs.declared.formats.Colours.TheVariants.{Any, Opaque, Fixed}
+use Rattle.qrcode_sheets.specs.declared.formats.Format.{Format}
 
 abbrev pub red_of : ℕ → ℕ
 red_of colour = colour / 65536 % 256

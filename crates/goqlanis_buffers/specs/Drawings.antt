@@ -4,14 +4,14 @@ use Rattle.qrcode_render.specs.Layout.{layout}
 use Rattle.qrcode_sheets.specs.Paths.{plain}
 use Rattle.goqlanis_buffers.specs.Shades.{colors_of}
 use Rattle.goqlanis_request.specs.Drawings.{sized}
-use Rattle.qrcode_sheets.specs.Formats.{IsDrawn}
+use Rattle.qrcode_sheets.specs.Drawn.{IsSheetFile}
 use Rattle.qrcode_sheets.specs.Sheets.{Nothing, Overlay, Sheet}
 use Rattle.qrcode_sheets.specs.declared.layers.PartInk.{PartInk}
-use Rattle.qrcode_formats.specs.Formats.{row}
-use Rattle.qrcode_formats.specs.declared.Density.{Density}
-use Rattle.qrcode_formats.specs.declared.Density.TheVariants.{Stored}
-use Rattle.qrcode_formats.specs.declared.Format.{Format}
-use Rattle.qrcode_formats.specs.declared.Format.TheVariants.{Png}
+use Rattle.qrcode_sheets.specs.Formats.{row}
+use Rattle.qrcode_sheets.specs.declared.formats.Density.{Density}
+use Rattle.qrcode_sheets.specs.declared.formats.Density.TheVariants.{Stored}
+use Rattle.qrcode_sheets.specs.declared.formats.Format.{Format}
+use Rattle.qrcode_sheets.specs.declared.formats.Format.TheVariants.{Png}
 use Rattle.goqlanis_buffers.specs.Colours.{colour_shade, has_colours}
 use Rattle.goqlanis_buffers.specs.Tints.{has_parts, have_tints, ink_paint, paints, version_for}
 use Rattle.goqlanis_buffers.specs.declared.pictures.Drawing.{Drawing}
@@ -63,7 +63,7 @@ pub record IsPictureOver (over : Overlay) (f : Format) (modules : List ℕ) (wid
   pub sayable : IsTrue (is_sayable f d)
   pub known : IsTrue (has_parts width d)
   pub own : map ink_paint inks ≡ paints d
-  pub shown : IsDrawn f (record (sheet f modules width d inks) { over = over }) bytes
+  pub shown : IsSheetFile f (record (sheet f modules width d inks) { over = over }) bytes
 
 abbrev pub IsPictureIn : Format → List ℕ → ℕ → Drawing → List ℕ → Type 0  -- with nothing on top
 IsPictureIn f modules width d bytes = IsPictureOver Nothing f modules width d bytes

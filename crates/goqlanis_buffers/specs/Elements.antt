@@ -17,7 +17,7 @@ use Rattle.goqlanis_buffers.specs.declared.answers.Fault.{Fault}
 use Rattle.goqlanis_buffers.specs.declared.answers.Fault.TheVariants.{At, Other}
 use Rattle.goqlanis_buffers.specs.declared.answers.Refusal.{Refusal}
 use Rattle.goqlanis_buffers.specs.declared.answers.Refusal.TheVariants.{SmallBuffer, OutOfMemory, NotText, NoRoom, FieldCharacter, FieldCheckDigits, FieldRange, NoSuchIdentifier, ElementLength}
-use Rattle.goqlanis_buffers.specs.declared.options.Asked.{Asked}
+use Rattle.goqlanis_buffers.specs.declared.options.CodeSettings.{CodeSettings}
 use Rattle.goqlanis_buffers.specs.declared.options.Options.{Options}
 use Rattle.goqlanis_buffers.specs.declared.elements.Part.{Part}
 use Rattle.goqlanis_buffers.specs.declared.symbols.Symbol.{Symbol}
@@ -84,13 +84,13 @@ abbrev pub WritesElements : List Part → List ℕ → List ℕ → Result ℕ F
 WritesElements parts old new result = Writes (IsStringIn parts old) (IsElementsCause parts (length old)) old new result
 
 -- the symbol of elements that is asked for, under the mask of the lowest penalty
-pub record AreMadeAs (a : Asked) (parts : List Part) (code : Code) : Type 0 where
+pub record AreMadeAs (a : CodeSettings) (parts : List Part) (code : Code) : Type 0 where
   pub texts : AreTexts parts (length parts)
   pub made : IsElementsIn a.choice a.level (items_of parts) code
 
 -- the symbol of elements that options ask for, under the mask that they ask for
 pub record IsElementsSymbol (o : Options) (parts : List Part) (code : Code) : Type 0 where
-  pub asked : Asked
+  pub asked : CodeSettings
   pub named : IsAsked o asked
   pub own : Code
   pub made : AreMadeAs asked parts own
@@ -98,7 +98,7 @@ pub record IsElementsSymbol (o : Options) (parts : List Part) (code : Code) : Ty
 
 -- the symbol is not written under the mask that options ask for, into a buffer of `room` items
 pub record AreNotWritten (o : Options) (parts : List Part) (room : ℕ) (refusal : Refusal) : Type 0 where
-  pub asked : Asked
+  pub asked : CodeSettings
   pub named : IsAsked o asked
   pub own : Code
   pub made : AreMadeAs asked parts own
@@ -106,13 +106,13 @@ pub record AreNotWritten (o : Options) (parts : List Part) (room : ℕ) (refusal
 
 -- no version that options allow holds the elements
 pub record HaveNoVersion (o : Options) (parts : List Part) : Type 0 where
-  pub asked : Asked
+  pub asked : CodeSettings
   pub named : IsAsked o asked
   pub refused : IsElementsRefused asked.choice asked.level (items_of parts) (unmade.Symbol DataTooLong)
 
 -- the options are valid
 abbrev pub AskFor : Options → Type 0
-AskFor o = (a : Asked) × IsAsked o a
+AskFor o = (a : CodeSettings) × IsAsked o a
 
 -- why there is no symbol of elements in a buffer of `room` items; elements are checked only if the options are valid
 abbrev pub IsElementsSymbolCause : Options → List Part → ℕ → Fault → Type 0

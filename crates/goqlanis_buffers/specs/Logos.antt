@@ -1,12 +1,12 @@
 -- Pictures with a logo over some modules.
 use Rattle.std.specs.Prelude.{◌≡◌, ◌≢◌, ◌⊎◌, ◌<◌, ◌≤◌, ℕ, List, length, map, Some, Result}
-use Rattle.qrcode_formats.specs.declared.Format.{Format}
-use Rattle.qrcode_formats.specs.declared.Format.TheVariants.{Png}
-use Rattle.qrcode_area.specs.declared.areas.Rectangle.{Rectangle}
+use Rattle.qrcode_sheets.specs.declared.formats.Format.{Format}
+use Rattle.qrcode_sheets.specs.declared.formats.Format.TheVariants.{Png}
+use Rattle.qrcode_damage.specs.declared.areas.Rectangle.{Rectangle}
 use Rattle.qrcode_png.specs.Image.{Image, image_of, rgba}
 use Rattle.qrcode_png.specs.Refusals.{IsRefused}
-use Rattle.qrcode_png.specs.declared.reading.Unread.{Unread}
-use Rattle.qrcode_png.specs.declared.reading.Unread.TheVariants as png
+use Rattle.qrcode_png.specs.declared.reading.PngError.{PngError}
+use Rattle.qrcode_png.specs.declared.reading.PngError.TheVariants as png
 use Rattle.qrcode_sheets.specs.Places.{fitted}
 use Rattle.qrcode_sheets.specs.Sheets.{Pixels}
 use Rattle.qrcode_sheets.specs.declared.pasting.Inset.{Inset}
@@ -63,7 +63,7 @@ IsPlaceCause a area refusals.NoSuchSize = IsDrawable a Png × (8192 < side_of a)
 IsPlaceCause a area refusals.NoSuchArea = IsDrawable a Png × ((side_of a ≤ 8192) × (¬ HasRoom a.width area 0))
 IsPlaceCause a area refusal = ⊥
 
-abbrev pub logo_refusal : Unread → Refusal  -- the error that C gets of a file that is not read
+abbrev pub logo_refusal : PngError → Refusal  -- the error that C gets of a file that is not read
 logo_refusal png.NotPng = refusals.NotPicture
 logo_refusal png.OutOfMemory = refusals.OutOfMemory
 logo_refusal e = refusals.BrokenPicture
@@ -74,7 +74,7 @@ abbrev pub IsLogoCause : Asked → List ℕ → Rectangle → ℕ → Refusal �
 IsLogoCause a file area room refusal =
     ((refusal ≢ refusals.SmallBuffer) × IsCauseFor a room refusal)
     ⊎ (IsPlaceCause a area refusal
-    ⊎ ((MayHaveLogo a area × ((e : Unread) × (IsRefused file e × (refusal ≡ logo_refusal e))))
+    ⊎ ((MayHaveLogo a area × ((e : PngError) × (IsRefused file e × (refusal ≡ logo_refusal e))))
     ⊎ ((refusal ≡ refusals.SmallBuffer) × ((bytes : List ℕ) × (IsWithLogo a file area bytes × (room < length bytes))))))
 
 -- writes the picture with a logo, and returns its length

@@ -16,7 +16,7 @@ use Rattle.goqlanis_buffers.specs.Segments.{refusal_in}
 use Rattle.goqlanis_buffers.specs.Symbols.{ExceedsRoom, IsMasked}
 use Rattle.goqlanis_buffers.specs.declared.answers.Refusal.{Refusal}
 use Rattle.goqlanis_buffers.specs.declared.answers.Refusal.TheVariants.{NoSuchLevel, NoSuchVersion, NoSuchStruct, NoSuchManner, NoSuchMask, NotText, SmallBuffer}
-use Rattle.goqlanis_buffers.specs.declared.options.Asked.{Asked}
+use Rattle.goqlanis_buffers.specs.declared.options.CodeSettings.{CodeSettings}
 use Rattle.goqlanis_buffers.specs.declared.options.Options.{Options}
 
 abbrev pub manner_named : ℕ → Option Manner  -- the manner of a number, in this order from 0 on
@@ -32,7 +32,7 @@ abbrev pub mask_named : ℕ → Option ℕ  -- the number of the mask that optio
 mask_named n = if n == 0 then None else Some (n - 1)
 
 -- what options ask for
-pub record IsAsked (o : Options) (a : Asked) : Type 0 where
+pub record IsAsked (o : Options) (a : CodeSettings) : Type 0 where
   pub size : o.size ≡ 28
   pub level : level_named o.level ≡ Some a.level
   pub choice : choice_named o ≡ Some a.choice
@@ -40,13 +40,13 @@ pub record IsAsked (o : Options) (a : Asked) : Type 0 where
   pub mask : mask_named o.mask ≡ a.mask
 
 -- the symbol of data that is asked for, under the mask of the lowest penalty; a text is UTF-8
-pub record IsMadeAs (a : Asked) (bytes : List ℕ) (code : Code) : Type 0 where
+pub record IsMadeAs (a : CodeSettings) (bytes : List ℕ) (code : Code) : Type 0 where
   pub text : IsTrue (is_text a.manner) → IsUtf8 bytes
   pub made : IsSymbolIn a.choice a.manner a.level bytes code
 
 -- the symbol of data that options ask for, under the mask that they ask for
 pub record IsSymbolWith (o : Options) (bytes : List ℕ) (code : Code) : Type 0 where
-  pub asked : Asked
+  pub asked : CodeSettings
   pub named : IsAsked o asked
   pub own : Code
   pub made : IsMadeAs asked bytes own
@@ -54,13 +54,13 @@ pub record IsSymbolWith (o : Options) (bytes : List ℕ) (code : Code) : Type 0 
 
 -- the version of the symbol has no mask of the number that is asked for
 pub record HasNoMask (o : Options) (bytes : List ℕ) : Type 0 where
-  pub asked : Asked
+  pub asked : CodeSettings
   pub named : IsAsked o asked
   pub lacks : IsMaskless asked.mask (IsMadeAs asked bytes)
 
 -- there is no symbol of what is asked for, though a text is UTF-8
 pub record HasNoSymbol (o : Options) (bytes : List ℕ) (refusal : Refusal) : Type 0 where
-  pub asked : Asked
+  pub asked : CodeSettings
   pub named : IsAsked o asked
   pub text : IsTrue (is_text asked.manner) → IsUtf8 bytes
   pub error : QrError
@@ -69,7 +69,7 @@ pub record HasNoSymbol (o : Options) (bytes : List ℕ) (refusal : Refusal) : Ty
 
 -- a text is asked for, but the data is not UTF-8
 pub record IsNoText (o : Options) (bytes : List ℕ) : Type 0 where
-  pub asked : Asked
+  pub asked : CodeSettings
   pub named : IsAsked o asked
   pub text : IsTrue (is_text asked.manner)
   pub none : ¬ IsUtf8 bytes

@@ -8,12 +8,12 @@ use Rattle.qrcode_scan.specs.declared.pixels.Unscanned as pixels
 use Rattle.qrcode_reader.specs.declared.spell.headers.Header.TheVariants.{Eci, Fnc1First, Fnc1Second, StructuredAppend}
 use Rattle.qrcode_reader.specs.declared.spell.parts.Part as piece
 use Rattle.qrcode_reader.specs.declared.spell.parts.Part.TheVariants.{Front, Bytes}
-use Rattle.qrcode_png.specs.declared.reading.Unread as png
+use Rattle.qrcode_png.specs.declared.reading.PngError as png
 use Rattle.qrcode_scan.specs.Codes.{AreTwo, FindsWholesOf}
 use Rattle.qrcode_scan.specs.Scans.{IsScanOf, IsUnreadPicture}
 use Rattle.qrcode_scan.specs.declared.scanning.Scan as found
-use Rattle.qrcode_scan.specs.declared.scanning.Unread.{Unread}
-use Rattle.qrcode_scan.specs.declared.scanning.Unread.TheVariants.{Unscanned, Png, Jpeg, NoSquare, NoSymbol, OutOfMemory}
+use Rattle.qrcode_scan.specs.declared.scanning.ScanError.{ScanError}
+use Rattle.qrcode_scan.specs.declared.scanning.ScanError.TheVariants.{Unscanned, Png, Jpeg, NoSquare, NoSymbol, OutOfMemory}
 use Rattle.goqlanis_buffers.specs.Outputs.{IsFilled}
 use Rattle.goqlanis_buffers.specs.Readings.{position_number, IsReadingOf}
 use Rattle.goqlanis_buffers.specs.declared.answers.Refusal.{Refusal}
@@ -92,7 +92,7 @@ square_refusal (square.TheVariants.Damaged b) = refusals.Damaged
 square_refusal square.TheVariants.NotSpelled = refusals.NotSpelled
 square_refusal square.TheVariants.OutOfMemory = refusals.OutOfMemory
 
-abbrev pub picture_refusal : Unread → Refusal  -- the error that C gets of a picture that does not decode
+abbrev pub picture_refusal : ScanError → Refusal  -- the error that C gets of a picture that does not decode
 picture_refusal (Unscanned pixels.TheVariants.NotPicture) = refusals.NotPicture
 picture_refusal (Unscanned pixels.TheVariants.OutOfMemory) = refusals.OutOfMemory
 picture_refusal (Unscanned e) = refusals.BrokenPicture
@@ -104,11 +104,11 @@ picture_refusal (NoSymbol count e) = square_refusal e
 picture_refusal OutOfMemory = refusals.OutOfMemory
 
 -- why codes of a picture are not reported, for a struct of size `size` that must have size `own`; `Cause` are the causes of the reader; the first that applies
-abbrev pub IsPictureCause : ℕ → (Unread → Type 0) → List ℕ → ℕ → Refusal → Type 0
+abbrev pub IsPictureCause : ℕ → (ScanError → Type 0) → List ℕ → ℕ → Refusal → Type 0
 IsPictureCause own Cause picture size refusals.NoSuchStruct = size ≢ own
 IsPictureCause own Cause picture size refusals.LargePicture = (size ≡ own) × (most < length picture)
 IsPictureCause own Cause picture size refusals.OutOfMemory = ⊤
-IsPictureCause own Cause picture size refusal = (e : Unread) × ((size ≡ own) × ((length picture ≤ most) × (Cause e × (refusal ≡ picture_refusal e))))
+IsPictureCause own Cause picture size refusal = (e : ScanError) × ((size ≡ own) × ((length picture ≤ most) × (Cause e × (refusal ≡ picture_refusal e))))
 
 abbrev pub IsUnreadFor : List ℕ → ℕ → Refusal → Type 0  -- why a picture does not decode, for a struct of this size
 IsUnreadFor picture size refusal = IsPictureCause 32 (IsUnreadPicture picture) picture size refusal

@@ -20,14 +20,14 @@ use Rattle.qrcode_bits.specs.declared.bits.ExtendedMode.TheVariants.{Fnc1First, 
 use Rattle.qrcode.specs.Reading.{EncodesBits}
 use Rattle.goqlanis_buffers.specs.declared.answers.Refusal.{Refusal}
 use Rattle.goqlanis_buffers.specs.declared.answers.Refusal.TheVariants.{LevelNotInVersion, NoMode, NoRoom, OutOfMemory, NoSuchKind, NotInMode, NoSuchNumber}
-use Rattle.goqlanis_buffers.specs.declared.segments.Kind.{Kind}
-use Rattle.goqlanis_buffers.specs.declared.segments.Kind.TheVariants.{Data, CharacterSet, FirstPosition, SecondPosition}
+use Rattle.goqlanis_buffers.specs.declared.segments.SegmentKind.{SegmentKind}
+use Rattle.goqlanis_buffers.specs.declared.segments.SegmentKind.TheVariants.{Data, CharacterSet, FirstPosition, SecondPosition}
 use Rattle.goqlanis_buffers.specs.declared.segments.Segment.{Segment}
 
-abbrev pub kind_named : ℕ → Option Kind  -- the kind of a number, in this order from 0 on
+abbrev pub kind_named : ℕ → Option SegmentKind  -- the kind of a number, in this order from 0 on
 kind_named n = slice_get (Data Numeric ∷ Data Alphanumeric ∷ Data Byte ∷ Data Kanji ∷ CharacterSet ∷ FirstPosition ∷ SecondPosition ∷ []) n
 
-abbrev pub bits_in : Version → List ℕ → ℕ → Kind → List Bool  -- the bits of a segment or header of a kind; none for a segment without bytes
+abbrev pub bits_in : Version → List ℕ → ℕ → SegmentKind → List Bool  -- the bits of a segment or header of a kind; none for a segment without bytes
 bits_in v bytes n (Data m) = if length bytes == 0 then [] else written_piece v (record { mode = m; chunk = bytes })
 bits_in v bytes n CharacterSet = number_bits 4 7 ++ eci_bits n
 bits_in v bytes n FirstPosition = number_bits 4 5
@@ -43,7 +43,7 @@ refusal_in InvalidEciDesignator = NoSuchNumber
 refusal_in InvalidCharacter = NotInMode
 
 -- the error of a segment or header of a kind after `used` bits; a segment without bytes has none
-abbrev pub kind_refusal : Version → ℕ → List ℕ → ℕ → Kind → Option Refusal
+abbrev pub kind_refusal : Version → ℕ → List ℕ → ℕ → SegmentKind → Option Refusal
 kind_refusal v used bytes n (Data m) =
     if length bytes == 0 then None else if not (can_write m bytes) then Some NotInMode else option_map refusal_in (piece_refusal v used (record { mode = m; chunk = bytes }))
 kind_refusal v used bytes n CharacterSet = option_map refusal_in (eci_refusal v used n)

@@ -5,14 +5,14 @@ use Rattle.qrcode_types.specs.declared.types.Color.{Color}
 use Rattle.qrcode_types.specs.declared.types.Color.TheVariants.{Dark, Light}
 use Rattle.qrcode_types.specs.declared.types.Version.{Version}
 use Rattle.qrcode_types.specs.declared.types.Version.TheVariants.{Normal, Micro}
-use Rattle.qrcode_formats.specs.Formats.{row}
-use Rattle.qrcode_formats.specs.declared.Colours.{Colours}
-use Rattle.qrcode_formats.specs.declared.Colours.TheVariants.{Any, Opaque, Fixed}
-use Rattle.qrcode_formats.specs.declared.Format.{Format}
+use Rattle.qrcode_sheets.specs.Formats.{row}
+use Rattle.qrcode_sheets.specs.declared.formats.Colours.{Colours}
+use Rattle.qrcode_sheets.specs.declared.formats.Colours.TheVariants.{Any, Opaque, Fixed}
+use Rattle.qrcode_sheets.specs.declared.formats.Format.{Format}
 use Rattle.qrcode_sheets.specs.Sheets.{Shade, shade_of}
 use Rattle.qrcode_sheets.specs.declared.layers.PartInk.{PartInk}
-use Rattle.qrcode_sheets.specs.declared.parts.Part.{Part}
-use Rattle.qrcode_sheets.specs.declared.parts.Part.TheVariants.{Finder, Alignment, Timing, FormatWord, VersionWord, Data}
+use Rattle.qrcode_sheets.specs.declared.parts.CodePart.{CodePart}
+use Rattle.qrcode_sheets.specs.declared.parts.CodePart.TheVariants.{Finder, Alignment, Timing, FormatWord, VersionWord, Data}
 use Rattle.goqlanis_buffers.specs.Colours.{colour_shade, named_shade}
 use Rattle.goqlanis_buffers.specs.declared.pictures.Drawing.{Drawing}
 use Rattle.goqlanis_buffers.specs.declared.tints.NamedTint.{NamedTint}
@@ -56,7 +56,7 @@ has_parts width d = is_some (version_across width) || is_plain d
 
 -- the colour of the dark or the light modules of a part
 pub record Paint : Type 0 where
-  pub part : Part
+  pub part : CodePart
   pub tone : Color
   pub shade : Shade
 

@@ -10,7 +10,7 @@ ghost use Rattle.goqlanis_buffers.specs.declared.answers.Refusal.TheVariants.{Ou
 
 use qrcode::types::QrError;
 use qrcode_reader::Unread;
-use qrcode_scan::{Unread as UnreadPicture, Unscanned};
+use qrcode_scan::{ScanError as UnreadPicture, Unscanned};
 use std::alloc::AllocError;
 
 /// Why a call fails, with the number that C gets. Each error has one cause.
@@ -188,7 +188,7 @@ impl From<UnreadPicture> for Refusal {
             }
             UnreadPicture::OutOfMemory
             | UnreadPicture::Unscanned(Unscanned::OutOfMemory)
-            | UnreadPicture::Png(qrcode_png::Unread::OutOfMemory) => Refusal::OutOfMemory,
+            | UnreadPicture::Png(qrcode_png::PngError::OutOfMemory) => Refusal::OutOfMemory,
             UnreadPicture::Unscanned(_) | UnreadPicture::Png(_) => Refusal::BrokenPicture,
             UnreadPicture::NoSquare => Refusal::NoSquare,
             UnreadPicture::NoSymbol(_, cause) => Refusal::from(cause),

@@ -4,8 +4,8 @@ ghost use Rattle.std.specs.Prelude.{◌≡◌, ◌<◌, ℕ, Bool, length, slice
 ghost use Rattle.qrcode_types.specs.Versions.{has_level};
 ghost use Rattle.qrcode_types.specs.declared.types.EcLevel.{EcLevel};
 ghost use Rattle.qrcode_types.specs.declared.types.Version.{Version};
-ghost use Rattle.qrcode_area.specs.Areas.{covers};
-ghost use Rattle.qrcode_area.specs.Reserves.{IsReserve};
+ghost use Rattle.qrcode_damage.specs.Areas.{covers};
+ghost use Rattle.qrcode_damage.specs.Reserves.{IsReserve};
 ghost use Rattle.goqlanis_buffers.specs.Areas.{covered_byte, wanted, CoversArea, IsTaken, TellsLargest, WritesReserve};
 
 use crate::answers::{Fault, Refusal};
@@ -13,9 +13,9 @@ use crate::names::pair_named;
 use crate::reading::format_of;
 use crate::symbols::put;
 use qrcode::types::{EcLevel, Version};
-use qrcode_area::areas::{Area, Rectangle};
-use qrcode_area::rectangles::{Kept, Wish as Wanted, largest_rectangle};
-use qrcode_area::reserve::{Reserve, reserve_in};
+use qrcode_damage::areas::{Area, Rectangle};
+use qrcode_damage::rectangles::{Kept, Wish as Wanted, largest_rectangle};
+use qrcode_damage::reserve::{Reserve, reserve_in};
 use qrcode_types::tables::Blocks;
 use qrcode_types::versions::side;
 use std::alloc::Global;

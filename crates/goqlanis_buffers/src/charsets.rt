@@ -7,7 +7,7 @@ ghost use Rattle.goqlanis_request.specs.Charsets.{IsShortestOf};
 ghost use Rattle.goqlanis_buffers.specs.Charsets.{number_of, numbers_tried, HasUnknown, IsLacked, IsUncodedIn, WritesCoded};
 
 use crate::answers::{Fault, Refusal};
-use crate::options::{Asked, Options, asked_by};
+use crate::options::{CodeSettings, Options, asked_by};
 use crate::symbols::{Symbol, write_masked};
 use goqlanis_request::symbol_among;
 use qrcode::QrCode;
@@ -51,7 +51,7 @@ pub fn encode_charset(
 // Encodes a text in that of `sets` in which it takes the fewest bits.
 fn code_among(
     alloc: Global,
-    asked: &Asked,
+    asked: &CodeSettings,
     sets: &[Charset],
     text: &str,
 ) -> Result<(QrCode, Charset), Fault>

@@ -9,7 +9,7 @@ ghost use Rattle.goqlanis_buffers.specs.Contents.{cause_refusal, field_fault, pa
 use crate::answers::{Fault, Refusal};
 use crate::symbols::put;
 use qrcode_contents::fields::errors::{Cause, ContentError, ContentResult, Field};
-use qrcode_payloads::given::Given;
+use qrcode_payloads::given::FieldSource;
 use qrcode_payloads::kinds::{Kind, fields_of, kind_named, place_of};
 use qrcode_payloads::texts::text_of;
 use std::alloc::Global;
@@ -110,7 +110,7 @@ struct Placed<'g, 'a> {
     given: &'g [Item<'a>],
 }
 
-impl Given for Placed<'_, '_> {
+impl FieldSource for Placed<'_, '_> {
     ghost fields = { λ placed. texts_of placed.kind placed.given.now };
 
     fn text(&self, field: Field) -> &str {

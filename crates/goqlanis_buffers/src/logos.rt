@@ -14,9 +14,9 @@ use goqlanis_request::overlays::window_of;
 use goqlanis_request::places::place_at;
 use goqlanis_request::shrinking::shrunk;
 use qrcode::types::QrResult;
-use qrcode_area::areas::Rectangle;
-use qrcode_formats::Format;
-use qrcode_png::{Picture, Unread, read};
+use qrcode_damage::areas::Rectangle;
+use qrcode_png::{Picture, PngError, read};
+use qrcode_sheets::formats::Format;
 use qrcode_sheets::sheet::Overlay;
 use qrcode_sheets::{GREATEST_PAINTED, Inset, Place};
 use std::alloc::Global;
@@ -44,7 +44,7 @@ pub fn put_with_logo(
         Err(unread) => return Err(logo_refusal(unread)),
     };
     let Ok(bytes) = drawn_over(alloc, asked, area, place, &picture) else {
-        return Err(logo_refusal(Unread::OutOfMemory));
+        return Err(logo_refusal(PngError::OutOfMemory));
     };
     if out.len() < bytes.len() {
         return Err(Refusal::SmallBuffer);
@@ -72,12 +72,12 @@ fn place_of(asked: &Asked<'_>, format: Format, area: Rectangle) -> Result<Place,
 }
 
 // Converts the error of a file that is not read.
-fn logo_refusal(unread: Unread) -> Refusal
+fn logo_refusal(unread: PngError) -> Refusal
     ensures { result ≡ logo_refusal unread }
 {
     match unread {
-        Unread::NotPng => Refusal::NotPicture,
-        Unread::OutOfMemory => Refusal::OutOfMemory,
+        PngError::NotPng => Refusal::NotPicture,
+        PngError::OutOfMemory => Refusal::OutOfMemory,
         _ => Refusal::BrokenPicture,
     }
 }

@@ -38,7 +38,7 @@ const SIZE: u32 = 28;
 
 /// What options ask for.
 #[derive(Clone, Copy)]
-pub struct Asked {
+pub struct CodeSettings {
     pub choice: Choice,
     pub level: EcLevel,
     pub manner: Manner,
@@ -74,7 +74,7 @@ pub fn encode_with(
 /// Looks up the numbers in options.
 ///
 /// Errors, the first that applies: `NoSuchStruct`, `NoSuchLevel`, `NoSuchVersion`, `NoSuchManner`.
-pub(crate) fn asked_by(options: &Options) -> Result<Asked, Refusal>
+pub(crate) fn asked_by(options: &Options) -> Result<CodeSettings, Refusal>
     ensures made { IfOk result (IsAsked options.now) }
     ensures causes { (bytes : List ℕ) (room : ℕ)
         → IfErr result (IsOptionsCause options.now bytes room) }
@@ -91,7 +91,7 @@ pub(crate) fn asked_by(options: &Options) -> Result<Asked, Refusal>
     let Some(manner) = manner_named(options.manner) else {
         return Err(Refusal::NoSuchManner);
     };
-    Ok(Asked {
+    Ok(CodeSettings {
         choice,
         level,
         manner,

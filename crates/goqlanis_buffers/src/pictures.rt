@@ -2,8 +2,8 @@
 
 ghost use Rattle.std.specs.Prelude.{◌≡◌, ◌≢◌, ◌↔◌, ◌<◌, ◌^◌, ℕ, length, map, IfOk, IfErr, IfSome, IsOkUnless, IsTrue};
 ghost use Rattle.qrcode_types.specs.declared.types.QrError.TheVariants.{OutOfMemory};
-ghost use Rattle.qrcode_formats.specs.Formats.{row};
-ghost use Rattle.qrcode_sheets.specs.Formats.{takes_overlay};
+ghost use Rattle.qrcode_sheets.specs.Formats.{row};
+ghost use Rattle.qrcode_sheets.specs.Drawn.{takes_overlay};
 ghost use Rattle.qrcode_sheets.specs.Paths.{frame_of, plain};
 ghost use Rattle.qrcode_sheets.specs.Sheets.{overlay_of};
 ghost use Rattle.goqlanis_buffers.specs.Shades.{colors_of};
@@ -23,7 +23,7 @@ use crate::tints::{
     tints, version_for,
 };
 use qrcode::types::{Color, QrError, QrResult};
-use qrcode_formats::{Density, Format, format_numbered};
+use qrcode_sheets::formats::{Density, Format, format_numbered};
 use qrcode_sheets::sheet::{Overlay, Sheet};
 use qrcode_sheets::svg_path::{Frame, Size};
 use qrcode_sheets::{DrawError, GREATEST_PAINTED, draw};

@@ -127,7 +127,7 @@ pub fn mask_of(alloc: Global, modules: &[u8]) -> Result<u32, Refusal>
 
 // The version of a square, and what its format information names.
 #[derive(Clone, Copy)]
-pub(crate) struct Format {
+pub(crate) struct FormatInformation {
     pub(crate) version: Version,
     pub(crate) level: EcLevel,
     pub(crate) mask: MaskPattern,
@@ -135,7 +135,7 @@ pub(crate) struct Format {
 
 // Reads the format information of a square of modules.
 #[tactic(auto, using(crate::proofs::Known::no_side))]
-pub(crate) fn format_of(alloc: Global, modules: &[u8]) -> Result<Format, Refusal>
+pub(crate) fn format_of(alloc: Global, modules: &[u8]) -> Result<FormatInformation, Refusal>
     ensures square { IfOk result (λ f.
         length (colors_of modules.now) ≡ side f.version * side f.version) }
     ensures named { IfOk result (λ f. HasFormat f.version (colors_of modules.now) f.level f.mask) }
@@ -146,7 +146,7 @@ pub(crate) fn format_of(alloc: Global, modules: &[u8]) -> Result<Format, Refusal
     };
     let colors = colors_of(alloc, modules)?;
     match read_format(version, &colors) {
-        Some((level, mask)) => Ok(Format {
+        Some((level, mask)) => Ok(FormatInformation {
             version,
             level,
             mask,

@@ -22,7 +22,7 @@ use std::alloc::Global;
 #[repr(C)]
 #[derive(Clone, Copy)]
 pub struct Segment<'a> {
-    /// The number of a `Kind`.
+    /// The number of a `SegmentKind`.
     pub kind: u32,
     /// The ECI designator or application indicator; ignored for other kinds.
     pub number: u32,
@@ -32,7 +32,7 @@ pub struct Segment<'a> {
 
 /// The kind of a segment.
 #[derive(Clone, Copy)]
-pub enum Kind {
+pub enum SegmentKind {
     /// Bytes in a mode. Without bytes the segment is left out, since an empty numeric segment is
     /// the terminator of Micro.
     Data(Mode),
@@ -46,17 +46,17 @@ pub enum Kind {
 
 // The kind of a number: 0 for numeric, 1 for alphanumeric, 2 for bytes, 3 for Kanji, 4 for ECI, 5
 // and 6 for FNC1 in the first and in the second position.
-fn kind_named(number: u32) -> Option<Kind>
+fn kind_named(number: u32) -> Option<SegmentKind>
     ensures value { result ≡ kind_named number }
 {
     match number {
-        0 => Some(Kind::Data(Mode::Numeric)),
-        1 => Some(Kind::Data(Mode::Alphanumeric)),
-        2 => Some(Kind::Data(Mode::Byte)),
-        3 => Some(Kind::Data(Mode::Kanji)),
-        4 => Some(Kind::CharacterSet),
-        5 => Some(Kind::FirstPosition),
-        6 => Some(Kind::SecondPosition),
+        0 => Some(SegmentKind::Data(Mode::Numeric)),
+        1 => Some(SegmentKind::Data(Mode::Alphanumeric)),
+        2 => Some(SegmentKind::Data(Mode::Byte)),
+        3 => Some(SegmentKind::Data(Mode::Kanji)),
+        4 => Some(SegmentKind::CharacterSet),
+        5 => Some(SegmentKind::FirstPosition),
+        6 => Some(SegmentKind::SecondPosition),
         _ => None,
     }
 }
@@ -175,16 +175,16 @@ fn push(bits: &mut Bits, segment: &Segment<'_>) -> Result<(), Refusal>
 {
     match kind_named(segment.kind) {
         None => return Err(Refusal::NoSuchKind),
-        Some(Kind::Data(_)) if segment.bytes.is_empty() => {}
-        Some(Kind::Data(mode)) => {
+        Some(SegmentKind::Data(_)) if segment.bytes.is_empty() => {}
+        Some(SegmentKind::Data(mode)) => {
             if !can_write(mode, segment.bytes) {
                 return Err(Refusal::NotInMode);
             }
             push_data(bits, mode, segment.bytes)?;
         }
-        Some(Kind::CharacterSet) => bits.push_eci_designator(segment.number)?,
-        Some(Kind::FirstPosition) => bits.push_fnc1_first_position()?,
-        Some(Kind::SecondPosition) => {
+        Some(SegmentKind::CharacterSet) => bits.push_eci_designator(segment.number)?,
+        Some(SegmentKind::FirstPosition) => bits.push_fnc1_first_position()?,
+        Some(SegmentKind::SecondPosition) => {
             if segment.number > 255 {
                 return Err(Refusal::NoSuchNumber);
             }

@@ -10,16 +10,16 @@ ghost use Rattle.goqlanis_buffers.specs.Tints.{has_parts, have_tints, ink_paint,
 
 use crate::pictures::Drawing;
 use qrcode::types::{Color, QrResult, Version};
-use qrcode_formats::{Colours, Format};
+use qrcode_sheets::formats::{Colours, Format};
 use qrcode_sheets::sheet::Ink;
-use qrcode_sheets::{Part, PartInk};
+use qrcode_sheets::{CodePart, PartInk};
 use std::alloc::{AllocError, Global};
 use std::fmt::Write;
 
 /// The colour of the dark or the light modules of a part, as C gives it.
 #[derive(Clone, Copy)]
 pub struct Tint {
-    pub part: Part,
+    pub part: CodePart,
     pub tone: Color,
     /// `SAME` if these modules have the colour of all dark or light ones.
     pub colour: u32,
@@ -48,18 +48,18 @@ pub(crate) fn tints(drawing: &Drawing) -> [Tint; 12]
     ensures { result ≡ tints drawing.now }
 {
     [
-        Tint { part: Part::Finder, tone: Color::Dark, colour: drawing.finder_dark },
-        Tint { part: Part::Finder, tone: Color::Light, colour: drawing.finder_light },
-        Tint { part: Part::Alignment, tone: Color::Dark, colour: drawing.alignment_dark },
-        Tint { part: Part::Alignment, tone: Color::Light, colour: drawing.alignment_light },
-        Tint { part: Part::Timing, tone: Color::Dark, colour: drawing.timing_dark },
-        Tint { part: Part::Timing, tone: Color::Light, colour: drawing.timing_light },
-        Tint { part: Part::FormatWord, tone: Color::Dark, colour: drawing.format_dark },
-        Tint { part: Part::FormatWord, tone: Color::Light, colour: drawing.format_light },
-        Tint { part: Part::VersionWord, tone: Color::Dark, colour: drawing.version_dark },
-        Tint { part: Part::VersionWord, tone: Color::Light, colour: drawing.version_light },
-        Tint { part: Part::Data, tone: Color::Dark, colour: drawing.data_dark },
-        Tint { part: Part::Data, tone: Color::Light, colour: drawing.data_light },
+        Tint { part: CodePart::Finder, tone: Color::Dark, colour: drawing.finder_dark },
+        Tint { part: CodePart::Finder, tone: Color::Light, colour: drawing.finder_light },
+        Tint { part: CodePart::Alignment, tone: Color::Dark, colour: drawing.alignment_dark },
+        Tint { part: CodePart::Alignment, tone: Color::Light, colour: drawing.alignment_light },
+        Tint { part: CodePart::Timing, tone: Color::Dark, colour: drawing.timing_dark },
+        Tint { part: CodePart::Timing, tone: Color::Light, colour: drawing.timing_light },
+        Tint { part: CodePart::FormatWord, tone: Color::Dark, colour: drawing.format_dark },
+        Tint { part: CodePart::FormatWord, tone: Color::Light, colour: drawing.format_light },
+        Tint { part: CodePart::VersionWord, tone: Color::Dark, colour: drawing.version_dark },
+        Tint { part: CodePart::VersionWord, tone: Color::Light, colour: drawing.version_light },
+        Tint { part: CodePart::Data, tone: Color::Dark, colour: drawing.data_dark },
+        Tint { part: CodePart::Data, tone: Color::Light, colour: drawing.data_light },
     ]
 }
 

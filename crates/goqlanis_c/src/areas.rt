@@ -7,7 +7,7 @@ ghost use Rattle.goqlanis_buffers.specs.Damaging.{WritesDamage};
 use goqlanis_buffers::answers::{answer, answer_at};
 use goqlanis_buffers::areas::{Taken, Wish, cover, largest, reserve_into};
 use goqlanis_buffers::damaging::{Promised, Wrong, damage};
-use qrcode_area::areas::Rectangle;
+use qrcode_damage::areas::Rectangle;
 use std::alloc::Global;
 
 /// Reports what an area takes of a symbol of this version and level. Writes how many codewords of

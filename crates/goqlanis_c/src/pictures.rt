@@ -6,7 +6,7 @@ ghost use Rattle.goqlanis_buffers.specs.Logos.{WritesLogo};
 use goqlanis_buffers::answers::answer;
 use goqlanis_buffers::logos::put_with_logo;
 use goqlanis_buffers::pictures::{Asked, Drawing, length_of, put_picture};
-use qrcode_area::areas::Rectangle;
+use qrcode_damage::areas::Rectangle;
 use std::alloc::Global;
 
 /// Draws `modules` as `drawing` asks. Writes the picture to the start of `out`, and its length to

@@ -36,14 +36,14 @@ impl<T: Drop> From<AllocFailed<T>> for Failure {
 
 /// A line of an input, which messages name.
 #[derive(Clone, Copy)]
-pub struct Place<'a> {
+pub struct InputLine<'a> {
     /// The file, unless the lines are an argument or standard input.
     pub file: Option<&'a str>,
     /// The number of the line in its input, from 1.
     pub line: usize,
 }
 
-impl fmt::Display for Place<'_> {
+impl fmt::Display for InputLine<'_> {
     fn fmt<W: fmt::Write>(&self, f: &mut fmt::Formatter<W>) -> fmt::Result {
         if let Some(file) = self.file {
             write!(f, "{}: ", shown(file))?;
@@ -58,7 +58,7 @@ pub struct Doubts<'a> {
     /// Whether they are errors.
     pub is_error: bool,
     /// The line that they are about, if there are several.
-    pub place: Option<Place<'a>>,
+    pub place: Option<InputLine<'a>>,
 }
 
 /// Warnings that are not errors, on one input.

@@ -133,7 +133,7 @@ pub fn write_data(
 
 // Writes data to a terminal, with escapes, and ends the last line.
 fn show(rt: &HostRuntime, data: &[u8]) -> Result<ExitCode, Failure> {
-    let shown = Escapes {
+    let shown = EscapedBytes {
         bytes: data,
         has_lines: true,
     };
@@ -207,21 +207,21 @@ pub fn unread<T>(alloc: Global, name: &str, error: &io::Error) -> Result<T, Fail
 /// reorder others, become escapes such as \u{1b}; bytes that are not UTF-8 become escapes such as
 /// \xff.
 #[derive(Clone, Copy)]
-pub struct Escapes<'a> {
+pub struct EscapedBytes<'a> {
     pub bytes: &'a [u8],
     /// Whether line breaks and tabs are left as they are.
     pub has_lines: bool,
 }
 
 /// Displays `text` within one line, with escapes for line breaks and tabs too.
-pub fn shown(text: &str) -> Escapes<'_> {
-    Escapes {
+pub fn shown(text: &str) -> EscapedBytes<'_> {
+    EscapedBytes {
         bytes: text.as_bytes(),
         has_lines: false,
     }
 }
 
-impl fmt::Display for Escapes<'_> {
+impl fmt::Display for EscapedBytes<'_> {
     fn fmt<W: fmt::Write>(&self, f: &mut fmt::Formatter<W>) -> fmt::Result {
         for chunk in self.bytes.utf8_chunks() {
             for character in chunk.valid().chars() {

@@ -3,7 +3,7 @@
 use crate::Done;
 use goqlanis_files::failure::Failure;
 use goqlanis_files::{refused, usage};
-use goqlanis_options::asked::{Asked, Report};
+use goqlanis_options::asked::{Job, Report};
 use goqlanis_options::charsets::{CharsetName, Coded, charset_named};
 use goqlanis_request::{
     Choice, Content, Request, VersionName, refusal_text, symbol_among, symbol_in,
@@ -17,7 +17,7 @@ use std::alloc::Global;
 /// takes the fewest bits.
 pub(crate) fn text_code(
     alloc: Global,
-    asked: &Asked<'_, '_>,
+    asked: &Job<'_, '_>,
     name: &str,
     bytes: &[u8],
 ) -> Done<(QrCode, Coded)> {

@@ -5,8 +5,8 @@ ghost use Rattle.std.specs.Prelude.{◌≡◌, length, IfOk};
 use crate::Done;
 use goqlanis_files::failure::Failure;
 use goqlanis_files::{doubted, refused};
-use goqlanis_options::asked::Asked;
-use goqlanis_options::damage::{AskedDamage, Wrong};
+use goqlanis_options::asked::Job;
+use goqlanis_options::damage::{AskedDamage, WrongCount};
 use goqlanis_request::masking::modules_under;
 use goqlanis_request::{Request, drawn, mask_refusal_text};
 use qrcode::QrCode;
@@ -22,9 +22,9 @@ fn damage_in(code: &QrCode, asked: AskedDamage) -> Damage {
     let most = most_codewords(code.version(), code.error_correction_level());
     Damage {
         codewords: match asked.codewords {
-            Wrong::Count(count) => count,
-            Wrong::Most => most,
-            Wrong::Beyond => most.saturating_add(1),
+            WrongCount::Count(count) => count,
+            WrongCount::Most => most,
+            WrongCount::Beyond => most.saturating_add(1),
         },
         format_bits: asked.format_bits,
         version_bits: asked.version_bits,
@@ -39,7 +39,7 @@ fn damage_in(code: &QrCode, asked: AskedDamage) -> Damage {
 /// `OutOfMemory`.
 pub(crate) fn draw_damaged(
     rt: &HostRuntime,
-    asked: &Asked<'_, '_>,
+    asked: &Job<'_, '_>,
     wanted: AskedDamage,
     code: &QrCode,
 ) -> Done<Vec<u8>> {

@@ -7,17 +7,17 @@ ghost use Rattle.goqlanis_request.specs.Drawings.{IsShownIn};
 ghost use Rattle.goqlanis_request.specs.Elements.{IsApplicationIn, IsElementsIn};
 ghost use Rattle.goqlanis_make.specs.Labels.{label_text};
 
+use crate::areas::{area_in, version_for, warn_of_logo};
 use crate::charsets::text_code;
 use crate::damaging::draw_damaged;
 use crate::elements::{Elements, with_round_brackets};
+use crate::middle::{draw_with_middle, has_pixels};
 use crate::segments::{characters_of, segment_of};
 use crate::{Done, Drawing};
 use goqlanis_files::failure::Failure;
 use goqlanis_files::streams::{print, write_data, write_file};
 use goqlanis_files::{refused, usage};
-use goqlanis_logos::areas::{area_in, version_for, warn_of_logo};
-use goqlanis_logos::middle::{draw_with_middle, has_pixels};
-use goqlanis_options::asked::{Asked, Target, Work};
+use goqlanis_options::asked::{Job, Target, Work};
 use goqlanis_options::charsets::Coded;
 use goqlanis_options::report::{Sizes, show_report, sizes_of};
 use goqlanis_request::{
@@ -27,32 +27,32 @@ use goqlanis_request::{
 use goqlanis_tables::pages::Pages;
 use qrcode::QrCode;
 use qrcode::bits::Manner;
-use qrcode_area::areas::Rectangle;
-use qrcode_formats::{Format, Middle};
+use qrcode_damage::areas::Rectangle;
 use qrcode_gs1::errors::Gs1Error;
 use qrcode_gs1::symbol::errors::SymbolError;
 use qrcode_gs1::symbol::indicator_of;
 use qrcode_sheets::GREATEST_PAINTED;
+use qrcode_sheets::formats::{Format, LogoForm};
 use std::alloc::{AllocError, Global};
 use std::io::IsTerminal;
 use std::process::ExitCode;
 
 /// Encodes data, and draws and reports the code as `draw_reported` does. A larger version may give
 /// a logo more room.
-pub(crate) fn draw(rt: &HostRuntime, asked: &Asked<'_, '_>, data: &[u8]) -> Done<Drawing> {
+pub(crate) fn draw(rt: &HostRuntime, asked: &Job<'_, '_>, data: &[u8]) -> Done<Drawing> {
     let (code, coded) = encode(rt.alloc(), asked, data)?;
     let Some(choice) = choice_for_logo(rt.alloc(), asked, &code)? else {
         return draw_reported(rt, asked, code, coded);
     };
     let mut request = asked.request;
     request.choice = choice;
-    let larger = Asked { request, ..*asked };
+    let larger = Job { request, ..*asked };
     let (code, coded) = encode(rt.alloc(), &larger, data)?;
     draw_reported(rt, &larger, code, coded)
 }
 
 // Encodes data, with `--charset` in a character set; with `--segment` the segments that are given.
-fn encode(alloc: Global, asked: &Asked<'_, '_>, data: &[u8]) -> Done<(QrCode, Option<Coded>)> {
+fn encode(alloc: Global, asked: &Job<'_, '_>, data: &[u8]) -> Done<(QrCode, Option<Coded>)> {
     let code = match (asked.work, asked.input.segments, asked.input.charset) {
         (Work::Elements(indicator), _, _) => gs1_code(alloc, &asked.request, indicator, data)?,
         (_, Some(words), _) => segments_code(alloc, asked, words)?,
@@ -67,7 +67,7 @@ fn encode(alloc: Global, asked: &Asked<'_, '_>, data: &[u8]) -> Done<(QrCode, Op
 }
 
 // Makes a code of text or bytes.
-fn bytes_code(alloc: Global, asked: &Asked<'_, '_>, bytes: &[u8]) -> Done<QrCode> {
+fn bytes_code(alloc: Global, asked: &Job<'_, '_>, bytes: &[u8]) -> Done<QrCode> {
     check_empty(alloc, asked, bytes)?;
     let (request, manner) = (&asked.request, manner(alloc, asked, bytes)?);
     match symbol_in(alloc, request.choice, manner, request.level, bytes) {
@@ -78,7 +78,7 @@ fn bytes_code(alloc: Global, asked: &Asked<'_, '_>, bytes: &[u8]) -> Done<QrCode
 
 // Returns the choice of a larger version in which the logo gets what it should, if there is one and
 // the version is not given.
-fn choice_for_logo(alloc: Global, asked: &Asked<'_, '_>, code: &QrCode) -> Done<Option<Choice>> {
+fn choice_for_logo(alloc: Global, asked: &Job<'_, '_>, code: &QrCode) -> Done<Option<Choice>> {
     let (Some(logo), Choice::From(_) | Choice::Boosted(_)) = (&asked.logo, asked.request.choice)
     else {
         return Ok(None);
@@ -95,7 +95,7 @@ fn choice_for_logo(alloc: Global, asked: &Asked<'_, '_>, code: &QrCode) -> Done<
 // Errors: `Refused` if a logo has no room there; `OutOfMemory`.
 fn draw_code(
     alloc: Global,
-    asked: &Asked<'_, '_>,
+    asked: &Job<'_, '_>,
     code: &QrCode,
     area: Option<Rectangle>,
 ) -> Done<Vec<u8>>
@@ -122,13 +122,13 @@ fn refuse<T>(why: Result<String, AllocError>) -> Done<T>
 const GREATEST_WHOLE: u32 = 16_384;
 
 /// Checks that a side has no more pixels than the format allows, and at least one per module.
-pub(crate) fn check_side(alloc: Global, asked: &Asked<'_, '_>, code: &QrCode) -> Done<()> {
+pub(crate) fn check_side(alloc: Global, asked: &Job<'_, '_>, code: &QrCode) -> Done<()> {
     let request = &asked.request;
     let Sizes { modules, side, .. } = sizes_of(request, code);
     let row = request.format.row();
     let most = if row.is_whole {
         GREATEST_WHOLE
-    } else if row.middle == Middle::Pixels && (!request.parts.is_empty() || has_pixels(asked)) {
+    } else if row.middle == LogoForm::Pixels && (!request.parts.is_empty() || has_pixels(asked)) {
         GREATEST_PAINTED
     } else {
         row.most
@@ -149,7 +149,7 @@ pub(crate) fn check_side(alloc: Global, asked: &Asked<'_, '_>, code: &QrCode) ->
 }
 
 /// Checks that data is not empty, unless `--allow-empty` is given.
-pub(crate) fn check_empty(alloc: Global, asked: &Asked<'_, '_>, bytes: &[u8]) -> Done<()> {
+pub(crate) fn check_empty(alloc: Global, asked: &Job<'_, '_>, bytes: &[u8]) -> Done<()> {
     if !bytes.is_empty() || asked.input.allows_empty {
         Ok(())
     } else if asked.input.lines.is_some() {
@@ -162,7 +162,7 @@ pub(crate) fn check_empty(alloc: Global, asked: &Asked<'_, '_>, bytes: &[u8]) ->
 }
 
 // Makes a code of chosen segments, given as words MODE:DATA or eci:NUMBER.
-fn segments_code(alloc: Global, asked: &Asked<'_, '_>, words: &[&str]) -> Done<QrCode> {
+fn segments_code(alloc: Global, asked: &Job<'_, '_>, words: &[&str]) -> Done<QrCode> {
     let (mut segments, mut has_data) = (Vec::with_capacity(alloc, words.len())?, false);
     for word in words {
         let segment = segment_of(alloc, word)?;
@@ -264,7 +264,7 @@ fn application_code(
 /// reports it, and returns `None`.
 pub(crate) fn draw_reported(
     rt: &HostRuntime,
-    asked: &Asked<'_, '_>,
+    asked: &Job<'_, '_>,
     code: QrCode,
     coded: Option<Coded>,
 ) -> Done<Drawing> {
@@ -284,7 +284,7 @@ pub(crate) fn draw_reported(
 }
 
 /// Refuses a binary format that would go to a terminal.
-pub(crate) fn check_terminal(rt: &HostRuntime, asked: &Asked<'_, '_>) -> Done<()> {
+pub(crate) fn check_terminal(rt: &HostRuntime, asked: &Job<'_, '_>) -> Done<()> {
     let is_drawn = !asked.is_dry && matches!(asked.target, Target::Terminal);
     if is_drawn && !asked.request.format.row().is_text && rt.stdout().is_terminal() {
         return refused!(rt.alloc();
@@ -300,7 +300,7 @@ pub(crate) fn check_terminal(rt: &HostRuntime, asked: &Asked<'_, '_>) -> Done<()
 /// Errors: those of `print` and `write_file`.
 pub(crate) fn write_drawing(
     rt: &HostRuntime,
-    asked: &Asked<'_, '_>,
+    asked: &Job<'_, '_>,
     drawing: Drawing,
 ) -> Done<ExitCode> {
     let Some(bytes) = drawing else {
@@ -319,7 +319,7 @@ pub(crate) fn write_drawing(
 /// Errors: those of `Pages::add` and `Series::write`.
 pub(crate) fn write_page(
     rt: &HostRuntime,
-    asked: &Asked<'_, '_>,
+    asked: &Job<'_, '_>,
     pages: &mut Pages<'_>,
     drawing: Drawing,
 ) -> Done<()> {
@@ -331,7 +331,7 @@ pub(crate) fn write_page(
 }
 
 /// Chooses how data is encoded: as bytes, text, or text marked as UTF-8.
-pub(crate) fn manner(alloc: Global, asked: &Asked<'_, '_>, bytes: &[u8]) -> Done<Manner> {
+pub(crate) fn manner(alloc: Global, asked: &Job<'_, '_>, bytes: &[u8]) -> Done<Manner> {
     match manner_of(bytes) {
         _ if asked.input.is_bytes => Ok(Manner::Bytes),
         manner if !asked.input.is_eci => Ok(manner),

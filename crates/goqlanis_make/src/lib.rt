@@ -1,12 +1,15 @@
-//! Makes and draws codes, and writes them to files.
+//! Makes and draws codes, with what stands in their middle, and writes them to files.
 #![tactic(auto)]
 
+mod areas;
 mod charsets;
 mod damaging;
 mod drawing;
 mod elements;
 mod lines;
+mod logos;
 mod making;
+mod middle;
 mod payloads;
 mod segments;
 mod splitting;

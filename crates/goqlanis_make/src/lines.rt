@@ -7,11 +7,11 @@ use goqlanis_files::failure::{Doubts, Failure};
 use goqlanis_files::files::flush_folder;
 use goqlanis_files::streams::{Series, ask, named, shown, unread};
 use goqlanis_files::{doubted, refused};
-use goqlanis_options::asked::{Asked, Lines, Source, Target, Work};
+use goqlanis_options::asked::{InputLines, Job, Source, Target, Work};
 use goqlanis_tables::checks::check_columns;
 use goqlanis_tables::fields::Line;
 use goqlanis_tables::inputs::next_line;
-use goqlanis_tables::names::{Pattern, check_made, common_form};
+use goqlanis_tables::names::{Template, check_made, common_form};
 use goqlanis_tables::pages::Pages;
 use goqlanis_tables::rows::{Row, is_loose, loose};
 use goqlanis_tables::tables::Table;
@@ -25,7 +25,7 @@ use std::process::ExitCode;
 struct Output<'a> {
     table: Table<'a>,
     // Names of files, if they go there.
-    pattern: Option<Pattern<'a>>,
+    pattern: Option<Template<'a>>,
     // The names of files that later lines could use again, in their common form.
     names: BTreeSet<String>,
     // Whether one was written.
@@ -39,8 +39,8 @@ struct Output<'a> {
 /// are not drawn.
 pub(crate) fn draw_lines<'a>(
     rt: &HostRuntime,
-    asked: &Asked<'a, '_>,
-    lines: Lines<'a>,
+    asked: &Job<'a, '_>,
+    lines: InputLines<'a>,
 ) -> Done<ExitCode> {
     match asked.input.source {
         Source::Text(text) => draw_from(rt, asked, lines, text.as_bytes()),
@@ -59,13 +59,13 @@ pub(crate) fn draw_lines<'a>(
 // disk at the end.
 fn draw_from<'a, R: Read + Drop>(
     rt: &HostRuntime,
-    asked: &Asked<'a, '_>,
-    lines: Lines<'a>,
+    asked: &Job<'a, '_>,
+    lines: InputLines<'a>,
     from: R,
 ) -> Done<ExitCode> {
     let mut from = BufReader::new(rt.alloc(), from).map_err(|_| Failure::OutOfMemory)?;
     let table = Table::read(rt.alloc(), asked, lines, &mut from)?;
-    let pattern = Pattern::read(rt, asked, &table.columns)?;
+    let pattern = Template::read(rt, asked, &table.columns)?;
     let path = match asked.target {
         Target::File(path) if pattern.is_none() => Some(path),
         _ => None,
@@ -94,7 +94,7 @@ impl<'a> Output<'a> {
     fn draw_each<R: BufRead>(
         &mut self,
         rt: &HostRuntime,
-        asked: &Asked<'a, '_>,
+        asked: &Job<'a, '_>,
         from: &mut R,
     ) -> Done<ExitCode> {
         let mut is_whole = true;
@@ -125,12 +125,12 @@ impl<'a> Output<'a> {
 
     // Draws a line, to a file named after it if `--output` is given. Refuses a name that an earlier
     // line has, in the form that is common to all names that may be the same.
-    fn draw_line(&mut self, rt: &HostRuntime, asked: &Asked<'a, '_>, line: &Line<'_>) -> Done<()> {
+    fn draw_line(&mut self, rt: &HostRuntime, asked: &Job<'a, '_>, line: &Line<'_>) -> Done<()> {
         let doubts = Doubts {
             place: Some(self.table.place(line.number)),
             ..asked.doubts
         };
-        let asked = Asked { doubts, ..*asked };
+        let asked = Job { doubts, ..*asked };
         self.table.check_line(rt, doubts, line)?;
         let Some(pattern) = &self.pattern else {
             let drawing = self.draw_data(rt, &asked, line)?;
@@ -145,7 +145,7 @@ impl<'a> Output<'a> {
         }
         check_made(rt, &asked, name.as_str())?;
         let target = Target::File(name.as_str());
-        let asked = Asked { target, ..asked };
+        let asked = Job { target, ..asked };
         let drawing = self.draw_data(rt, &asked, line)?;
         self.has_files = self.has_files || drawing.is_some();
         write_drawing(rt, &asked, drawing)?;
@@ -156,7 +156,7 @@ impl<'a> Output<'a> {
     }
 
     // Draws what a line holds.
-    fn draw_data(&self, rt: &HostRuntime, asked: &Asked<'_, '_>, line: &Line<'_>) -> Done<Drawing> {
+    fn draw_data(&self, rt: &HostRuntime, asked: &Job<'_, '_>, line: &Line<'_>) -> Done<Drawing> {
         let columns = &self.table.columns;
         if let Work::Payload(fields) = asked.work {
             let row = Row::of(rt.alloc(), columns, line, &fields)?;

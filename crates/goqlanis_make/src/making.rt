@@ -2,14 +2,14 @@
 
 use crate::drawing::{check_terminal, draw, write_drawing};
 use crate::lines::draw_lines;
+use crate::middle::read_logo;
 use crate::payloads::payload_of;
 use crate::splitting::{MOST_IN_SEVERAL, draw_several};
 use crate::{Done, Drawing};
 use goqlanis_files::failure::Failure;
 use goqlanis_files::streams::{MOST_DATA, read_file, read_standard_input, shown};
 use goqlanis_files::{doubted, refused, usage};
-use goqlanis_logos::middle::read_logo;
-use goqlanis_options::asked::{Asked, Source, Target, Work};
+use goqlanis_options::asked::{Job, Source, Target, Work};
 use goqlanis_options::fields::Fields;
 use goqlanis_options::logos::{AskedLogo, Middle};
 use goqlanis_options::sizes::pixels_per_inch;
@@ -19,20 +19,20 @@ use goqlanis_tables::columns::Columns;
 use qrcode::QrCode;
 use qrcode::types::QrError;
 use qrcode_contents::bill;
-use qrcode_payloads::given::Given;
+use qrcode_payloads::given::FieldSource;
 use qrcode_payloads::kinds::Kind;
 use qrcode_sheets::sheet::Ink;
 use std::alloc::Global;
 use std::process::ExitCode;
 
 /// Makes codes, after reading the logo file if there is one.
-pub fn make(rt: &HostRuntime, asked: &Asked<'_, '_>) -> Done<ExitCode> {
+pub fn make(rt: &HostRuntime, asked: &Job<'_, '_>) -> Done<ExitCode> {
     let file = read_logo(rt, asked)?;
     let logo = asked.logo.map(|logo| AskedLogo {
         middle: file.as_ref().map_or(logo.middle, Middle::Logo),
         ..logo
     });
-    let asked = &Asked { logo, ..*asked };
+    let asked = &Job { logo, ..*asked };
     check_terminal(rt, asked)?;
     if let Work::Split(split) = asked.work {
         return draw_several(rt, asked, split, &data(rt, asked, MOST_IN_SEVERAL)?);
@@ -50,7 +50,7 @@ pub fn make(rt: &HostRuntime, asked: &Asked<'_, '_>) -> Done<ExitCode> {
 }
 
 // Warns of placeholders in the name of a single file.
-fn warn_of_places(rt: &HostRuntime, asked: &Asked<'_, '_>) -> Done<()> {
+fn warn_of_places(rt: &HostRuntime, asked: &Job<'_, '_>) -> Done<()> {
     let is_single = asked.input.lines.is_none();
     match asked.target {
         Target::File(path) if is_single && path.contains('{') && path.contains('}') => {
@@ -64,7 +64,7 @@ fn warn_of_places(rt: &HostRuntime, asked: &Asked<'_, '_>) -> Done<()> {
 }
 
 // Draws a payload whose fields the options give.
-fn draw_fields(rt: &HostRuntime, asked: &Asked<'_, '_>, fields: Fields<'_, '_>) -> Done<Drawing> {
+fn draw_fields(rt: &HostRuntime, asked: &Job<'_, '_>, fields: Fields<'_, '_>) -> Done<Drawing> {
     if matches!(asked.input.source, Source::File(_)) {
         return usage!(rt.alloc();
             "--input goes with --lines, which takes the fields from columns; without it, options \
@@ -75,10 +75,10 @@ fn draw_fields(rt: &HostRuntime, asked: &Asked<'_, '_>, fields: Fields<'_, '_>) 
 }
 
 /// Draws a payload with these fields; messages name those of `columns` by column.
-pub(crate) fn draw_payload<G: Given>(
+pub(crate) fn draw_payload<G: FieldSource>(
     rt: &HostRuntime,
     kind: Kind,
-    asked: &Asked<'_, '_>,
+    asked: &Job<'_, '_>,
     given: &G,
     columns: &Columns,
 ) -> Done<Drawing> {
@@ -99,7 +99,7 @@ pub(crate) fn draw_payload<G: Given>(
 }
 
 // Draws a Swiss QR-bill. Warns of what its standard does not allow.
-fn draw_bill(rt: &HostRuntime, asked: &Asked<'_, '_>, text: &str) -> Done<Drawing> {
+fn draw_bill(rt: &HostRuntime, asked: &Job<'_, '_>, text: &str) -> Done<Drawing> {
     check_bill(rt.alloc(), text)?;
     if asked.logo.is_none() {
         doubted!(rt, asked.doubts;
@@ -165,7 +165,7 @@ fn check_bill(alloc: Global, text: &str) -> Done<()> {
 }
 
 // Returns the data to encode; at most `most` bytes are read.
-fn data(rt: &HostRuntime, asked: &Asked<'_, '_>, most: usize) -> Done<Vec<u8>> {
+fn data(rt: &HostRuntime, asked: &Job<'_, '_>, most: usize) -> Done<Vec<u8>> {
     let mut bytes = match asked.input.source {
         Source::Text(text) => Vec::from_slice(rt.alloc(), text.as_bytes())?,
         Source::File(path) => read_file(rt, path, most)?,

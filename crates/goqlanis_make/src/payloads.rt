@@ -10,7 +10,7 @@ use goqlanis_files::refused;
 use goqlanis_options::options::entry_of;
 use goqlanis_tables::columns::Columns;
 use qrcode_contents::fields::errors::{Cause, ContentError, Field};
-use qrcode_payloads::given::Given;
+use qrcode_payloads::given::FieldSource;
 use qrcode_payloads::kinds::Kind;
 use qrcode_payloads::texts::text_of;
 use std::alloc::Global;
@@ -19,7 +19,7 @@ use std::alloc::Global;
 ///
 /// Errors: `Refused` if the format rejects a field, with the option, what is wrong with it, and what
 /// its help says; `OutOfMemory`.
-pub(crate) fn payload_of<G: Given>(
+pub(crate) fn payload_of<G: FieldSource>(
     alloc: Global,
     kind: Kind,
     given: &G,

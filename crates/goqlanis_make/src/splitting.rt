@@ -5,11 +5,11 @@ use crate::drawing::{check_empty, draw_reported, manner, write_drawing, write_pa
 use goqlanis_files::failure::Failure;
 use goqlanis_files::refused;
 use goqlanis_files::streams::{MOST_DATA, Series, shown};
-use goqlanis_options::asked::{Asked, Split, Target};
+use goqlanis_options::asked::{Job, Split, Target};
 use goqlanis_request::VersionName;
 use goqlanis_tables::columns::Columns;
 use goqlanis_tables::fields::Line;
-use goqlanis_tables::names::{Pattern, check_made};
+use goqlanis_tables::names::{Template, check_made};
 use goqlanis_tables::pages::Pages;
 use qrcode::QrCode;
 use qrcode::bits::Manner;
@@ -28,12 +28,12 @@ pub(crate) const MOST_IN_SEVERAL: usize = MOST_SYMBOLS * MOST_DATA;
 /// Splits `bytes` over several codes, each written to a numbered file.
 pub(crate) fn draw_several(
     rt: &HostRuntime,
-    asked: &Asked<'_, '_>,
+    asked: &Job<'_, '_>,
     split: Split,
     bytes: &[u8],
 ) -> Done<ExitCode> {
     let alloc = rt.alloc();
-    let pattern = Pattern::read(rt, asked, &Columns::none(alloc))?;
+    let pattern = Template::read(rt, asked, &Columns::none(alloc))?;
     check_empty(alloc, asked, bytes)?;
     let (versions, level) = (split.versions, asked.request.level);
     let manner = manner(alloc, asked, bytes)?;
@@ -77,8 +77,8 @@ fn too_long(
 // Draws codes one after another, each to a numbered file if there is a pattern of names.
 fn draw_each(
     rt: &HostRuntime,
-    asked: &Asked<'_, '_>,
-    pattern: Option<&Pattern<'_>>,
+    asked: &Job<'_, '_>,
+    pattern: Option<&Template<'_>>,
     codes: Vec<QrCode>,
 ) -> Done<ExitCode> {
     let count = codes.len();
@@ -88,7 +88,7 @@ fn draw_each(
             let name = part_name(rt.alloc(), pattern, index.saturating_add(1))?;
             check_made(rt, asked, name.as_str())?;
             let target = Target::File(name.as_str());
-            let asked = Asked { target, ..*asked };
+            let asked = Job { target, ..*asked };
             write_drawing(rt, &asked, draw_reported(rt, &asked, code, None)?)?;
         } else {
             write_page(rt, asked, &mut pages, draw_reported(rt, asked, code, None)?)?;
@@ -102,12 +102,12 @@ fn draw_each(
 }
 
 // Returns the file name of a part.
-fn part_name(alloc: Global, pattern: &Pattern<'_>, number: usize) -> Done<String> {
+fn part_name(alloc: Global, pattern: &Template<'_>, number: usize) -> Done<String> {
     pattern.name(alloc, &Line::of(alloc, number, b"", ",")?)
 }
 
 // Warns of files with higher numbers, left by an earlier run.
-fn warn_of_others(rt: &HostRuntime, pattern: &Pattern<'_>, count: usize) -> Done<()> {
+fn warn_of_others(rt: &HostRuntime, pattern: &Template<'_>, count: usize) -> Done<()> {
     let mut others = String::new(rt.alloc());
     for number in count.saturating_add(1)..MOST_SYMBOLS + 1 {
         let name = part_name(rt.alloc(), pattern, number)?;

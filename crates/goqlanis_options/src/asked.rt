@@ -17,8 +17,8 @@ use goqlanis_files::usage;
 use goqlanis_request::{Choice, Request};
 use qrcode::types::{EcLevel, Version};
 use qrcode_append::Versions;
-use qrcode_formats::Format;
 use qrcode_payloads::kinds::Kind;
+use qrcode_sheets::formats::Format;
 use qrcode_sheets::takes_parts;
 use std::alloc::Global;
 
@@ -42,7 +42,7 @@ pub enum Target<'a> {
 
 /// The lines of an input, each of which becomes a code (`--lines`).
 #[derive(Clone, Copy)]
-pub struct Lines<'a> {
+pub struct InputLines<'a> {
     /// The separator of the fields in a line.
     pub delimiter: &'a str,
     /// The number or the name of the only field that is encoded, if there is one.
@@ -59,7 +59,7 @@ pub struct Input<'a, 'w> {
     pub source: Source<'a>,
     /// The segments that the user chose, instead of a source.
     pub segments: Option<&'a [&'w str]>,
-    pub lines: Option<Lines<'a>>,
+    pub lines: Option<InputLines<'a>>,
     /// Whether one newline at the end is dropped.
     pub is_trimmed: bool,
     pub allows_empty: bool,
@@ -118,7 +118,7 @@ pub struct Split {
 
 /// What the command line asks for.
 #[derive(Clone, Copy)]
-pub struct Asked<'a, 'w> {
+pub struct Job<'a, 'w> {
     pub request: Request<'a>,
     pub input: Input<'a, 'w>,
     pub work: Work<'a, 'w>,
@@ -131,7 +131,7 @@ pub struct Asked<'a, 'w> {
     pub doubts: Doubts<'a>,
 }
 
-impl Asked<'_, '_> {
+impl Job<'_, '_> {
     /// Whether it may make several codes.
     pub fn is_several(&self) -> bool {
         self.input.lines.is_some() || matches!(self.work, Work::Split(_))
@@ -146,7 +146,7 @@ pub fn asked_for<'a, 'w>(
     rt: &HostRuntime,
     purpose: Purpose,
     given: &'a ArgMatches<'w>,
-) -> Result<Asked<'a, 'w>, Failure> {
+) -> Result<Job<'a, 'w>, Failure> {
     let alloc = rt.alloc();
     let target = target_of(alloc, given)?;
     let is_dry = given.get_flag("dry-run");
@@ -156,7 +156,7 @@ pub fn asked_for<'a, 'w>(
     let input = input_of(alloc, given)?;
     let work = work_of(alloc, purpose, given, request.choice)?;
     let logo = logo_of(alloc, purpose, given, format)?;
-    let asked = Asked {
+    let asked = Job {
         request,
         input,
         work,
@@ -176,7 +176,7 @@ pub fn asked_for<'a, 'w>(
 
 // Checks that what is drawn can go where it is to go: it replaces nothing that is read, and several
 // drawings go to files, can be printed one after another, or are pages of one PDF document.
-fn check_files(rt: &HostRuntime, asked: &Asked<'_, '_>) -> Result<(), Failure> {
+fn check_files(rt: &HostRuntime, asked: &Job<'_, '_>) -> Result<(), Failure> {
     if !asked.is_several() {
         return check_target(rt, asked);
     }
@@ -242,7 +242,7 @@ fn input_of<'a, 'w>(alloc: Global, given: &'a ArgMatches<'w>) -> Result<Input<'a
 }
 
 // Returns how lines are taken, with `--lines`.
-fn lines_of<'a>(alloc: Global, given: &ArgMatches<'a>) -> Result<Option<Lines<'a>>, Failure> {
+fn lines_of<'a>(alloc: Global, given: &ArgMatches<'a>) -> Result<Option<InputLines<'a>>, Failure> {
     if !given.get_flag("lines") {
         for option in ["field", "columns", "header", "delimiter"] {
             if is_given(given, option) {
@@ -251,7 +251,7 @@ fn lines_of<'a>(alloc: Global, given: &ArgMatches<'a>) -> Result<Option<Lines<'a
         }
         return Ok(None);
     }
-    let lines = Lines {
+    let lines = InputLines {
         delimiter: match given.get_str("delimiter") {
             None => ",",
             Some("tab" | "\\t") => "\t",

@@ -9,22 +9,22 @@ use goqlanis_request::Request;
 use qrcode::types::Color;
 use qrcode_sheets::colours::{Colour, NAMES, colour_named};
 use qrcode_sheets::sheet::Ink;
-use qrcode_sheets::{Part, PartInk};
+use qrcode_sheets::{CodePart, PartInk};
 use std::alloc::{AllocError, Global};
 
 // The options for colours of the dark or the light modules of one part of a code.
 #[rattlefmt::skip]
-static PART_COLOURS: &[(&str, Part, Color)] = &[
-    ("finder-dark", Part::Finder, Color::Dark), ("finder-light", Part::Finder, Color::Light),
-    ("alignment-dark", Part::Alignment, Color::Dark), ("alignment-light", Part::Alignment, Color::Light),
-    ("timing-dark", Part::Timing, Color::Dark), ("timing-light", Part::Timing, Color::Light),
-    ("format-dark", Part::FormatWord, Color::Dark), ("format-light", Part::FormatWord, Color::Light),
-    ("version-dark", Part::VersionWord, Color::Dark), ("version-light", Part::VersionWord, Color::Light),
-    ("data-dark", Part::Data, Color::Dark), ("data-light", Part::Data, Color::Light),
+static PART_COLOURS: &[(&str, CodePart, Color)] = &[
+    ("finder-dark", CodePart::Finder, Color::Dark), ("finder-light", CodePart::Finder, Color::Light),
+    ("alignment-dark", CodePart::Alignment, Color::Dark), ("alignment-light", CodePart::Alignment, Color::Light),
+    ("timing-dark", CodePart::Timing, Color::Dark), ("timing-light", CodePart::Timing, Color::Light),
+    ("format-dark", CodePart::FormatWord, Color::Dark), ("format-light", CodePart::FormatWord, Color::Light),
+    ("version-dark", CodePart::VersionWord, Color::Dark), ("version-light", CodePart::VersionWord, Color::Light),
+    ("data-dark", CodePart::Data, Color::Dark), ("data-light", CodePart::Data, Color::Light),
 ];
 
 // Returns the options for colours of parts, each with its part and tone.
-fn part_colours() -> &'static [(&'static str, Part, Color)] {
+fn part_colours() -> &'static [(&'static str, CodePart, Color)] {
     PART_COLOURS
 }
 

@@ -9,7 +9,7 @@ use std::alloc::Global;
 
 /// How many codewords of each block are wrong.
 #[derive(Clone, Copy)]
-pub enum Wrong {
+pub enum WrongCount {
     Count(usize),
     /// The most that goqlanis corrects.
     Most,
@@ -20,7 +20,7 @@ pub enum Wrong {
 /// The damage that the command line asks for.
 #[derive(Clone, Copy)]
 pub struct AskedDamage {
-    pub codewords: Wrong,
+    pub codewords: WrongCount,
     /// Wrong bits in each copy of the format information.
     pub format_bits: usize,
     /// Wrong bits in each copy of the version information.
@@ -49,11 +49,11 @@ pub(crate) fn damage_of(alloc: Global, given: &ArgMatches<'_>) -> Result<AskedDa
     })
 }
 
-fn wrong_of(alloc: Global, word: &str) -> Result<Wrong, Failure> {
+fn wrong_of(alloc: Global, word: &str) -> Result<WrongCount, Failure> {
     match (word, word.parse::<u8>()) {
-        ("most", _) => Ok(Wrong::Most),
-        ("beyond", _) => Ok(Wrong::Beyond),
-        (_, Ok(count)) => Ok(Wrong::Count(count as usize)),
+        ("most", _) => Ok(WrongCount::Most),
+        ("beyond", _) => Ok(WrongCount::Beyond),
+        (_, Ok(count)) => Ok(WrongCount::Count(count as usize)),
         _ => usage!(alloc;
             "--wrong-codewords {word}: use a number, most (as many as are corrected) or beyond \
             (one more)"

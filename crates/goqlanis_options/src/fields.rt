@@ -8,7 +8,7 @@ use clap::ArgMatches;
 use goqlanis_files::failure::Failure;
 use goqlanis_files::refused;
 use qrcode_contents::fields::errors::Field;
-use qrcode_payloads::given::Given;
+use qrcode_payloads::given::FieldSource;
 use qrcode_payloads::kinds::Kind;
 use std::alloc::Global;
 
@@ -20,7 +20,7 @@ pub struct Fields<'m, 'a> {
     given: &'m ArgMatches<'a>,
 }
 
-impl Given for Fields<'_, '_> {
+impl FieldSource for Fields<'_, '_> {
     ghost fields = { λ options. texts_in options.given.now };
 
     fn text(&self, field: Field) -> &str {

@@ -6,7 +6,9 @@ use clap::ArgMatches;
 use goqlanis_files::failure::Failure;
 use goqlanis_files::streams::has_colours;
 use goqlanis_files::usage;
-use qrcode_formats::{Colours, Density, FORMATS, Format, Middle, format_named, format_of_ending};
+use qrcode_sheets::formats::{
+    Colours, Density, FORMATS, Format, LogoForm, format_named, format_of_ending,
+};
 use std::alloc::{AllocError, Global};
 use std::fs;
 
@@ -62,7 +64,7 @@ pub fn takes(format: Format, option: &str) -> bool {
         "dpi" => row.density != Density::Nothing,
         "invert" => format != Format::Pic,
         "at" => row.has_place,
-        "logo" => matches!(row.middle, Middle::Element | Middle::Pixels),
+        "logo" => matches!(row.middle, LogoForm::Element | LogoForm::Pixels),
         "svg-title" | "svg-desc" | "svg-id" | "svg-class" | "no-size" => format == Format::SvgPath,
         "pdf-title" => format == Format::Pdf,
         _ => row.parts != Colours::Fixed,

@@ -5,8 +5,8 @@ use clap::ArgMatches;
 use goqlanis_files::failure::Failure;
 use goqlanis_files::usage;
 use goqlanis_request::areas::LogoSize;
-use qrcode_area::rectangles::Kept;
-use qrcode_formats::Format;
+use qrcode_damage::rectangles::Kept;
+use qrcode_sheets::formats::{Format, LogoForm};
 use std::alloc::Global;
 
 /// A logo, ready to draw: pixels for PNG, or an element for SVG.
@@ -88,7 +88,7 @@ pub fn logo_of<'a>(
             "--logo-size, --logo-margin and --keep-alignment go with --logo FILE or --logo-area"
         );
     }
-    let has_cross = purpose.is_bill() && format.row().middle != qrcode_formats::Middle::Light;
+    let has_cross = purpose.is_bill() && format.row().middle != LogoForm::Light;
     Ok(has_cross.then_some(SWISS_CROSS))
 }
 

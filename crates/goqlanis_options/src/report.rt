@@ -1,6 +1,6 @@
 //! The report on a code: `--verbose`, `--json` and `--dry-run`.
 
-use crate::asked::{Asked, Report, Target};
+use crate::asked::{Job, Report, Target};
 use crate::charsets::{CharsetName, Coded};
 use crate::json::push_file;
 use crate::sizes::pixels_per_inch;
@@ -9,8 +9,8 @@ use goqlanis_files::failure::Failure;
 use goqlanis_files::streams::print;
 use goqlanis_request::{Extent, Request, VersionName, dots, quiet_zone, scale};
 use qrcode::QrCode;
-use qrcode_area::areas::Rectangle;
 use qrcode_check::masks::place_of;
+use qrcode_damage::areas::Rectangle;
 use std::alloc::{AllocError, Global};
 
 /// Appends a part of a report: as JSON, or as text for people, with the same values.
@@ -33,7 +33,7 @@ macro_rules! push_either {
 /// Errors: those of `print`, `warn_of_parts` and `warn_of_sizes`; `OutOfMemory`.
 pub fn show_report(
     rt: &HostRuntime,
-    asked: &Asked<'_, '_>,
+    asked: &Job<'_, '_>,
     code: &QrCode,
     area: Option<Rectangle>,
     coded: Option<Coded>,
@@ -103,7 +103,7 @@ struct Facts {
 
 impl Facts {
     // Appends the line of a report, and in JSON the file.
-    fn push_place(&mut self, asked: &Asked<'_, '_>) -> Result<(), AllocError> {
+    fn push_place(&mut self, asked: &Job<'_, '_>) -> Result<(), AllocError> {
         if let Some(place) = asked.doubts.place {
             let line = place.line;
             push_either!(self.text, self.is_json; "\"line\": {line}, ", "line {line}: ")?;

@@ -5,9 +5,9 @@ use clap::ArgMatches;
 use goqlanis_files::failure::Failure;
 use goqlanis_files::usage;
 use goqlanis_request::{Extent, Length};
-use qrcode_formats::{Density, Format};
 use qrcode_payloads::kinds::Kind;
 use qrcode_payloads::numbers::decimal;
+use qrcode_sheets::formats::{Density, Format};
 use std::alloc::Global;
 
 /// Returns the pixels per printed inch, if known: those of `--dpi`, or else of the format.

@@ -1,6 +1,6 @@
 //! Outputs that would replace what is read.
 
-use crate::asked::{Asked, Source, Target};
+use crate::asked::{Job, Source, Target};
 use goqlanis_files::failure::Failure;
 use goqlanis_files::usage;
 use std::alloc::Global;
@@ -20,7 +20,7 @@ pub fn is_same_file(rt: &HostRuntime, path: &str, read: &str) -> bool {
 }
 
 /// Returns what reads the file at `path`: `--input`, standard input or `--logo`.
-pub fn reader_of(rt: &HostRuntime, asked: &Asked<'_, '_>, path: &str) -> Option<&'static str> {
+pub fn reader_of(rt: &HostRuntime, asked: &Job<'_, '_>, path: &str) -> Option<&'static str> {
     let (what, input) = match asked.input.source {
         Source::File(input) => ("--input", input),
         Source::StandardInput => ("standard input", "-"),
@@ -36,7 +36,7 @@ pub fn reader_of(rt: &HostRuntime, asked: &Asked<'_, '_>, path: &str) -> Option<
 /// Checks that the drawing does not replace a file that is read.
 ///
 /// Errors: `Usage` if it does; `OutOfMemory`.
-pub fn check_target(rt: &HostRuntime, asked: &Asked<'_, '_>) -> Result<(), Failure> {
+pub fn check_target(rt: &HostRuntime, asked: &Job<'_, '_>) -> Result<(), Failure> {
     let Target::File(path) = asked.target else {
         return Ok(());
     };
@@ -51,7 +51,7 @@ pub fn check_target(rt: &HostRuntime, asked: &Asked<'_, '_>) -> Result<(), Failu
 /// Checks that no line that is written becomes a line that is read, which would never end.
 ///
 /// Errors: `Usage` if one does; `OutOfMemory`.
-pub(crate) fn check_streams(rt: &HostRuntime, asked: &Asked<'_, '_>) -> Result<(), Failure> {
+pub(crate) fn check_streams(rt: &HostRuntime, asked: &Job<'_, '_>) -> Result<(), Failure> {
     for (name, path) in [
         ("standard output", "/dev/stdout"),
         ("standard error", "/dev/stderr"),

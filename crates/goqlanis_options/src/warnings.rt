@@ -1,6 +1,6 @@
 //! Warnings on standard error; the code is drawn anyway.
 
-use crate::asked::{Asked, Source, Target};
+use crate::asked::{Job, Source, Target};
 use crate::formats::ending_format;
 use crate::report::Sizes;
 use goqlanis_files::doubted;
@@ -9,9 +9,9 @@ use goqlanis_files::streams::shown;
 use goqlanis_request::{Choice, Extent, Grouped, Request, VersionName};
 use qrcode::types::{Color, Version};
 use qrcode_contents::fields::errors::Field;
-use qrcode_formats::Format;
-use qrcode_payloads::given::Given;
-use qrcode_sheets::Part;
+use qrcode_payloads::given::FieldSource;
+use qrcode_sheets::CodePart;
+use qrcode_sheets::formats::Format;
 use qrcode_sheets::sheet::Ink;
 use std::{fmt, fs};
 
@@ -20,7 +20,7 @@ use std::{fmt, fs};
 /// `--micro` with an ECI, of placeholders in a title, and of a file extension of another format.
 ///
 /// Errors: `Refused` with the first warning if warnings are errors; `OutOfMemory`.
-pub fn warn(rt: &HostRuntime, asked: &Asked<'_, '_>) -> Result<(), Failure> {
+pub fn warn(rt: &HostRuntime, asked: &Job<'_, '_>) -> Result<(), Failure> {
     let doubts = asked.doubts;
     if asked.request.parts.is_empty() || asked.is_several() {
         warn_of_colours(rt, asked, None)?;
@@ -53,7 +53,7 @@ pub fn warn(rt: &HostRuntime, asked: &Asked<'_, '_>) -> Result<(), Failure> {
 }
 
 // Warns of a text that may be meant as standard input or as the name of a file.
-fn warn_of_text(rt: &HostRuntime, asked: &Asked<'_, '_>, text: &str) -> Result<(), Failure> {
+fn warn_of_text(rt: &HostRuntime, asked: &Job<'_, '_>, text: &str) -> Result<(), Failure> {
     let has_place = asked.input.lines.is_some() && text.contains('{') && text.contains('}');
     let is_name = text.contains(['.', '/']) && !text.contains("://");
     if has_place {
@@ -78,7 +78,7 @@ fn warn_of_text(rt: &HostRuntime, asked: &Asked<'_, '_>, text: &str) -> Result<(
 /// Errors: `Refused` with the first warning if warnings are errors; `OutOfMemory`.
 pub(crate) fn warn_of_parts(
     rt: &HostRuntime,
-    asked: &Asked<'_, '_>,
+    asked: &Job<'_, '_>,
     version: Version,
 ) -> Result<(), Failure> {
     let parts = asked.request.parts;
@@ -96,11 +96,11 @@ pub(crate) fn warn_of_parts(
 }
 
 // Whether codes of a version have a part.
-fn has_part(version: Version, part: Part) -> bool {
+fn has_part(version: Version, part: CodePart) -> bool {
     match (part, version) {
-        (Part::Alignment, Version::Normal(number)) => number >= 2,
-        (Part::VersionWord, Version::Normal(number)) => number >= 7,
-        (Part::Alignment | Part::VersionWord, Version::Micro(_)) => false,
+        (CodePart::Alignment, Version::Normal(number)) => number >= 2,
+        (CodePart::VersionWord, Version::Normal(number)) => number >= 7,
+        (CodePart::Alignment | CodePart::VersionWord, Version::Micro(_)) => false,
         _ => true,
     }
 }
@@ -110,7 +110,7 @@ fn has_part(version: Version, part: Part) -> bool {
 // dark modules may all be lighter than the light ones.
 fn warn_of_colours(
     rt: &HostRuntime,
-    asked: &Asked<'_, '_>,
+    asked: &Job<'_, '_>,
     version: Option<Version>,
 ) -> Result<(), Failure> {
     let (doubts, request) = (asked.doubts, &asked.request);
@@ -183,7 +183,7 @@ fn warn_of_character_set(
 /// a key of 64 hexadecimal digits.
 ///
 /// Errors: `Refused` if warnings are errors; `OutOfMemory`.
-pub fn warn_of_password<G: Given>(
+pub fn warn_of_password<G: FieldSource>(
     rt: &HostRuntime,
     doubts: Doubts<'_>,
     given: &G,
@@ -220,7 +220,7 @@ const MOST_FIELD: u32 = 99_999;
 /// Errors: `Refused` with the first warning if warnings are errors; `OutOfMemory`.
 pub(crate) fn warn_of_sizes(
     rt: &HostRuntime,
-    asked: &Asked<'_, '_>,
+    asked: &Job<'_, '_>,
     sizes: Sizes,
 ) -> Result<(), Failure> {
     let (doubts, side) = (asked.doubts, sizes.side);

@@ -5,7 +5,7 @@ use goqlanis_files::failure::{Failure, WARNINGS, warn_of_more};
 use goqlanis_files::streams::{MOST_PICTURE, read_file, read_standard_input, shown};
 use goqlanis_files::{refused, warning};
 use qrcode_check::Check;
-use qrcode_scan::{Checks, Codes, Scan, Unread, behind_picture, check_codes, read_codes};
+use qrcode_scan::{Checks, Codes, Scan, ScanError, behind_picture, check_codes, read_codes};
 use std::alloc::Global;
 
 // The maximum size of a binary PBM picture, in bytes: 67,108,864 pixels, as for PNG.
@@ -88,7 +88,7 @@ fn codes_in(alloc: Global, name: &str, picture: &[u8], is_checked: bool) -> Done
     };
     match found {
         Ok(found) => Ok(found),
-        Err(Unread::OutOfMemory) => Err(Failure::OutOfMemory),
+        Err(ScanError::OutOfMemory) => Err(Failure::OutOfMemory),
         Err(error) => refused!(alloc; "cannot {what} {name}: {error}"),
     }
 }

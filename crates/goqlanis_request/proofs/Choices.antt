@@ -6,8 +6,8 @@ use Rattle.qrcode_types.specs.declared.types.Version.{Version}
 use Rattle.qrcode_gs1.specs.Elements.{Item, element_string}
 use Rattle.qrcode_gs1.specs.symbol.Elements.{IsGs1Refused}
 use Rattle.qrcode_gs1.specs.symbol.Symbols.{IsMarkedRefused}
-use Rattle.qrcode_gs1.specs.declared.symbol.Position.{Position}
-use Rattle.qrcode_gs1.specs.declared.symbol.Position.TheVariants.{First, Second}
+use Rattle.qrcode_gs1.specs.declared.symbol.Fnc1.{Fnc1}
+use Rattle.qrcode_gs1.specs.declared.symbol.Fnc1.TheVariants.{First, Second}
 use Rattle.qrcode_gs1.specs.declared.symbol.errors.SymbolError.{SymbolError}
 use Rattle.qrcode_gs1.specs.declared.symbol.errors.SymbolError.TheVariants.{Elements, Symbol}
 use Rattle.goqlanis_request.specs.Elements.{number_of, AreRefusedAlone, IsApplicationRefused, IsRefusedAlone}
@@ -16,7 +16,7 @@ use Rattle.goqlanis_request.specs.declared.request.Choice.{Choice}
 use Rattle.goqlanis_request.specs.declared.request.Choice.TheVariants.{From, Boosted, At}
 
 -- if no version from v on holds the bytes, v does not
-pub alone : (v : Version) (from : ℕ) (p : Position) (l : EcLevel) (bytes : List ℕ) (e : QrError) → from ≡ number_of v → IsMarkedRefused from p l bytes e → IsRefusedAlone v p l bytes e
+pub alone : (v : Version) (from : ℕ) (p : Fnc1) (l : EcLevel) (bytes : List ℕ) (e : QrError) → from ≡ number_of v → IsMarkedRefused from p l bytes e → IsRefusedAlone v p l bytes e
 alone v from p l bytes e is (inl memory) = inl memory
 alone v from p l bytes e is (inr none) = inr (none.0, λ number same. none.1 number (omega (arith, is, ap number_of same)))
 

@@ -7,10 +7,10 @@ use Rattle.qrcode_types.specs.declared.types.Version.{Version}
 use Rattle.qrcode_types.specs.declared.types.Version.TheVariants.{Normal}
 use Rattle.qrcode_types.specs.declared.types.EcLevel.{EcLevel}
 use Rattle.qrcode_types.specs.declared.types.EcLevel.TheVariants.{L, M, Q, H}
-use Rattle.qrcode_area.specs.Areas.{MayShowAnything}
-use Rattle.qrcode_area.specs.Rectangles.{only, Fits, LeavesPatterns}
-use Rattle.qrcode_area.specs.declared.areas.Rectangle.{Rectangle}
-use Rattle.qrcode_area.proofs.Bounds.{excess_is_not, leaves_may}
+use Rattle.qrcode_damage.specs.Areas.{MayShowAnything}
+use Rattle.qrcode_damage.specs.Rectangles.{only, Fits, LeavesPatterns}
+use Rattle.qrcode_damage.specs.declared.areas.Rectangle.{Rectangle}
+use Rattle.qrcode_damage.proofs.Bounds.{excess_is_not, leaves_may}
 use Rattle.goqlanis_request.specs.Areas.{half_wish, middle, wish_for, HasArea, IsAreaOf, IsRefusedAt, IsRefusedOf, IsSized, NoHigher, NoLarger}
 use Rattle.goqlanis_request.specs.declared.areas.LogoError.{LogoError}
 use Rattle.goqlanis_request.specs.declared.areas.LogoError.TheVariants.{Outside, Patterns, Excess, NoRoom, OutOfMemory}

@@ -4,10 +4,10 @@ use Rattle.qrcode_types.specs.Versions.{side, ec_length, has_level, level_number
 use Rattle.qrcode_types.specs.declared.types.EcLevel.{EcLevel}
 use Rattle.qrcode_types.specs.declared.types.Version.{Version}
 use Rattle.qrcode_types.specs.declared.types.Version.TheVariants.{Normal}
-use Rattle.qrcode_area.specs.Rectangles.{in_proportion, centred, only, Fits, IsLargest, LeavesPatterns, NoneLarger}
-use Rattle.qrcode_area.specs.Refusals.{IsExcess}
-use Rattle.qrcode_area.specs.declared.areas.Rectangle.{Rectangle}
-use Rattle.qrcode_area.specs.declared.rectangles.Wish.{Wish}
+use Rattle.qrcode_damage.specs.Rectangles.{in_proportion, centred, only, Fits, IsLargest, LeavesPatterns, NoneLarger}
+use Rattle.qrcode_damage.specs.Refusals.{IsExcess}
+use Rattle.qrcode_damage.specs.declared.areas.Rectangle.{Rectangle}
+use Rattle.qrcode_damage.specs.declared.rectangles.Wish.{Wish}
 use Rattle.goqlanis_request.specs.Elements.{number_of}
 use Rattle.goqlanis_request.specs.declared.areas.LogoError.{LogoError}
 use Rattle.goqlanis_request.specs.declared.areas.LogoError.TheVariants.{Outside, Patterns, Excess, NoRoom, OutOfMemory}

@@ -9,7 +9,7 @@ use Rattle.qrcode_sheets.specs.Paths.{Frame, frame_of}
 use Rattle.qrcode_sheets.specs.declared.svg_path.Size.TheVariants.{Dots}
 use Rattle.qrcode.specs.Code.{Code}
 use Rattle.qrcode.specs.Pictures.{quiet_zone}
-use Rattle.qrcode_sheets.specs.Formats.{IsDrawn}
+use Rattle.qrcode_sheets.specs.Drawn.{IsSheetFile}
 use Rattle.qrcode_sheets.specs.Layers.{units}
 use Rattle.goqlanis_request.specs.Masks.{AreUnder}
 use Rattle.qrcode_sheets.specs.Sheets.{Nothing, Overlay, Sheet, shade_of}
@@ -67,4 +67,4 @@ sheet_for r v s over = record {
 
 -- the bytes draw the symbol as requested, under the requested mask
 abbrev pub IsShownIn : Request → Code → List ℕ → Type 0
-IsShownIn r code bytes = (s : List Color) × (AreUnder r.mask code s × IsDrawn r.format (sheet_for r code.version s Nothing) bytes)
+IsShownIn r code bytes = (s : List Color) × (AreUnder r.mask code s × IsSheetFile r.format (sheet_for r code.version s Nothing) bytes)

@@ -11,8 +11,8 @@ use Rattle.qrcode_gs1.specs.Refusals.{refusal_from}
 use Rattle.qrcode_gs1.specs.declared.errors.Gs1Error.TheVariants as gs1
 use Rattle.qrcode_gs1.specs.symbol.Elements.{IsGs1Symbol, IsGs1Refused}
 use Rattle.qrcode_gs1.specs.symbol.Symbols.{HoldsMarked, IsMarkedSymbol, IsMarkedRefused}
-use Rattle.qrcode_gs1.specs.declared.symbol.Position.{Position}
-use Rattle.qrcode_gs1.specs.declared.symbol.Position.TheVariants.{First, Second}
+use Rattle.qrcode_gs1.specs.declared.symbol.Fnc1.{Fnc1}
+use Rattle.qrcode_gs1.specs.declared.symbol.Fnc1.TheVariants.{First, Second}
 use Rattle.qrcode_gs1.specs.declared.symbol.errors.SymbolError.{SymbolError}
 use Rattle.qrcode_gs1.specs.declared.symbol.errors.SymbolError.TheVariants.{Elements, Symbol}
 use Rattle.goqlanis_request.specs.Segments.{first_of}
@@ -35,7 +35,7 @@ IsApplicationIn (At v) application l bytes code = IsMarkedSymbol (number_of v) (
 IsApplicationIn choice application l bytes code = IsMarkedSymbol (number_of (first_of choice)) (Second application) l bytes code
 
 -- why data with FNC1 has no symbol in this one version: memory runs out, or the version does not hold it
-abbrev pub IsRefusedAlone : Version → Position → EcLevel → List ℕ → QrError → Type 0
+abbrev pub IsRefusedAlone : Version → Fnc1 → EcLevel → List ℕ → QrError → Type 0
 IsRefusedAlone v p l bytes e = (e ≡ OutOfMemory) ⊎ ((e ≡ DataTooLong) × ((number : ℕ) → Normal (pos number) ≡ v → ¬ HoldsMarked p l bytes number))
 
 -- why an application's data has no symbol: memory runs out, or no allowed version holds it

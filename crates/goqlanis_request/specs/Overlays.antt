@@ -4,19 +4,19 @@ use Rattle.qrcode_types.specs.Versions.{side}
 use Rattle.qrcode_types.specs.declared.types.Color.{Color}
 use Rattle.qrcode_types.specs.declared.types.Version.{Version}
 use Rattle.qrcode.specs.Code.{Code}
-use Rattle.qrcode_area.specs.Areas.{AgreesOutside}
-use Rattle.qrcode_area.specs.Covered.{IsLightInside}
-use Rattle.qrcode_area.specs.Rectangles.{only}
-use Rattle.qrcode_area.specs.declared.areas.Rectangle.{Rectangle}
+use Rattle.qrcode_damage.specs.Areas.{AgreesOutside}
+use Rattle.qrcode_damage.specs.Covered.{IsLightInside}
+use Rattle.qrcode_damage.specs.Rectangles.{only}
+use Rattle.qrcode_damage.specs.declared.areas.Rectangle.{Rectangle}
 use Rattle.qrcode_png.specs.Image.{Shade, grey_shade}
 use Rattle.goqlanis_request.specs.Drawings.{sheet_for, unit_for, zone_for}
-use Rattle.qrcode_sheets.specs.Formats.{IsDrawn, takes_overlay}
+use Rattle.qrcode_sheets.specs.Drawn.{IsSheetFile, takes_overlay}
 use Rattle.qrcode_sheets.specs.Sheets.{Overlay, Nothing as Bare, Shapes, Pixels as Picture}
-use Rattle.qrcode_formats.specs.Formats.{row}
-use Rattle.qrcode_formats.specs.declared.Middle.TheVariants as middle
+use Rattle.qrcode_sheets.specs.Formats.{row}
+use Rattle.qrcode_sheets.specs.declared.formats.LogoForm.TheVariants as middle
 use Rattle.goqlanis_request.specs.Masks.{AreUnder}
-use Rattle.qrcode_formats.specs.declared.Format.{Format}
-use Rattle.qrcode_formats.specs.declared.Format.TheVariants.{Eps, Pdf}
+use Rattle.qrcode_sheets.specs.declared.formats.Format.{Format}
+use Rattle.qrcode_sheets.specs.declared.formats.Format.TheVariants.{Eps, Pdf}
 use Rattle.goqlanis_request.specs.declared.overlays.Inside.{Inside}
 use Rattle.goqlanis_request.specs.declared.overlays.Inside.TheVariants.{Nothing, Cross, Element, Pixels}
 use Rattle.qrcode_sheets.specs.declared.pasting.Window.{Window}
@@ -89,7 +89,7 @@ LacksRoom f v area (Pixels n) = takes_overlay f (Picture (window_of area) n) ≡
 abbrev pub IsShownWith : Request → Code → Rectangle → Inside → List ℕ → Type 0
 IsShownWith r code area inside bytes =
     (light : List Color) × (AreBeside r code area light
-    × IsDrawn r.format (sheet_for r code.version light (overlay_for r code.version area inside)) bytes)
+    × IsSheetFile r.format (sheet_for r code.version light (overlay_for r code.version area inside)) bytes)
 
 abbrev pub lies_between : ℕ → ℕ → ℕ → Bool  -- n is at least `from` and below `to`
 lies_between from to n = nat_le from n && nat_lt n to

@@ -1,7 +1,7 @@
 -- Where an area of modules is in a drawing.
 use Rattle.std.specs.Prelude.{ℕ, ◌+◌, ◌-◌, ◌*◌, ◌<◌, ◌≤◌}
 use Rattle.qrcode_types.specs.declared.types.Version.{Version}
-use Rattle.qrcode_area.specs.declared.areas.Rectangle.{Rectangle}
+use Rattle.qrcode_damage.specs.declared.areas.Rectangle.{Rectangle}
 use Rattle.qrcode_sheets.specs.declared.places.Place.{Place}
 use Rattle.goqlanis_request.specs.Drawings.{unit_for, zone_for}
 use Rattle.goqlanis_request.specs.declared.request.Request.{Request}

@@ -7,12 +7,12 @@ ghost use Rattle.goqlanis_request.specs.declared.areas.LogoError.TheVariants.{Ou
 
 use crate::elements::number_of;
 use qrcode::types::{EcLevel, Version};
-use qrcode_area::areas::{Area, Rectangle};
-use qrcode_area::excess::Excess;
-use qrcode_area::rectangles::{
+use qrcode_damage::areas::{Area, Rectangle};
+use qrcode_damage::excess::Excess;
+use qrcode_damage::rectangles::{
     Kept, Wish, centred, in_proportion, largest_rectangle, leaves_patterns,
 };
-use qrcode_area::reserve::reserve_in;
+use qrcode_damage::reserve::reserve_in;
 use qrcode_types::tables::Blocks;
 use qrcode_types::versions::side;
 use std::alloc::{AllocError, Global};

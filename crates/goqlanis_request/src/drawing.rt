@@ -3,7 +3,7 @@
 ghost use Rattle.std.specs.Prelude.{◌≡◌, ◌≤◌, ◌⊎◌, length, unwrap_or, IfOk, IfErr, IsOkUnless, IsTrue};
 ghost use Rattle.qrcode_types.specs.declared.types.QrError.TheVariants.{InvalidVersion, OutOfMemory};
 ghost use Rattle.qrcode.specs.Pictures.{quiet_zone};
-ghost use Rattle.qrcode_sheets.specs.Formats.{IsDrawn, takes_overlay};
+ghost use Rattle.qrcode_sheets.specs.Drawn.{IsSheetFile, takes_overlay};
 ghost use Rattle.goqlanis_request.specs.Drawings.{IsShownIn, dots_for, scale_for, sheet_for, unit_for};
 ghost use Rattle.goqlanis_request.specs.Masks.{LacksMask};
 ghost use Rattle.qrcode_sheets.specs.Sheets.{overlay_of, sheet_of};
@@ -65,7 +65,7 @@ pub fn drawn(
 ) -> QrResult<Vec<u8>>
     requires modules { length modules.now ≡ length code.now.modules }
     requires taken { IsTrue (takes_overlay request.now.format (overlay_of over)) }
-    ensures shown { IfOk result (λ file. IsDrawn request.now.format (sheet_for request.now
+    ensures shown { IfOk result (λ file. IsSheetFile request.now.format (sheet_for request.now
         code.now.version modules.now (overlay_of over.entry)) file.items) }
     ensures memory { IsOkUnless result OutOfMemory }
 {

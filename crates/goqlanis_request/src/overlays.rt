@@ -5,7 +5,7 @@ ghost use Rattle.qrcode_types.specs.Versions.{side};
 ghost use Rattle.qrcode_types.specs.declared.types.QrError.TheVariants.{InvalidVersion, OutOfMemory};
 ghost use Rattle.std.specs.List.{range_with_len};
 ghost use Rattle.qrcode_png.specs.Image.{grey_shade, rgba};
-ghost use Rattle.qrcode_sheets.specs.Formats.{takes_overlay};
+ghost use Rattle.qrcode_sheets.specs.Drawn.{takes_overlay};
 ghost use Rattle.qrcode_sheets.specs.Sheets.{overlay_of};
 ghost use Rattle.goqlanis_request.specs.Drawings.{scale_for};
 ghost use Rattle.goqlanis_request.specs.Masks.{LacksMask};
@@ -17,9 +17,9 @@ use crate::places::place_in;
 use crate::request::Request;
 use qrcode::QrCode;
 use qrcode::types::QrResult;
-use qrcode_area::areas::{Area, Rectangle};
-use qrcode_area::covered::lightened;
-use qrcode_formats::{Format, Middle};
+use qrcode_damage::areas::{Area, Rectangle};
+use qrcode_damage::covered::lightened;
+use qrcode_sheets::formats::{Format, LogoForm};
 use qrcode_sheets::sheet::Overlay;
 use qrcode_sheets::{Inset, Place, Window};
 use std::alloc::{AllocError, Global};
@@ -230,13 +230,13 @@ fn element(
         (LacksRoom request.now.format code.now.version area inside.entry)) }
 {
     match (inside, request.format.row().middle) {
-        (Inside::Nothing, _) | (Inside::Pixels(_), Middle::Pixels) => {
+        (Inside::Nothing, _) | (Inside::Pixels(_), LogoForm::Pixels) => {
             Ok(Some(String::new(alloc)))
         }
-        (Inside::Cross, Middle::Element | Middle::Operators) => {
+        (Inside::Cross, LogoForm::Element | LogoForm::Operators) => {
             Ok(Some(cross(alloc, request, code)?))
         }
-        (Inside::Element(margin, rest), Middle::Element) => {
+        (Inside::Element(margin, rest), LogoForm::Element) => {
             match place_in(request, code, area, margin) {
                 Some(place) => Ok(Some(svg_element(alloc, place, rest)?)),
                 None => Ok(None),

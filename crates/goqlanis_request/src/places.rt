@@ -8,7 +8,7 @@ ghost use Rattle.goqlanis_request.specs.Places.{place_at, place_in, HasRoom};
 use crate::drawing::{quiet_zone, unit};
 use crate::request::Request;
 use qrcode::QrCode;
-use qrcode_area::areas::Rectangle;
+use qrcode_damage::areas::Rectangle;
 use qrcode_sheets::Place;
 
 /// Returns where `area` less `margin` modules on each side is in the drawing, in the units that

@@ -2,12 +2,12 @@
 
 ghost use Rattle.std.specs.Prelude.{◌≡◌, IsTrue, IsUtf8};
 ghost use Rattle.qrcode_bits.specs.declared.bits.manner.Manner.TheVariants.{Bytes, Text};
-ghost use Rattle.qrcode_sheets.specs.Formats.{takes_parts};
+ghost use Rattle.qrcode_sheets.specs.Drawn.{takes_parts};
 
 use qrcode::bits::Manner;
 use qrcode::types::{EcLevel, Version};
-use qrcode_formats::Format;
 use qrcode_sheets::PartInk;
+use qrcode_sheets::formats::Format;
 use qrcode_sheets::sheet::Ink;
 use qrcode_sheets::svg_path::Frame;
 

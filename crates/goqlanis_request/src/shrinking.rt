@@ -9,17 +9,17 @@ use std::ops::Range;
 // What a pixel of a shrunk picture covers along one side, in parts of which a pixel of the picture
 // has `unit`.
 #[derive(Clone, Copy)]
-struct Span {
+struct Coverage {
     begin: u64,
     end: u64,
     unit: u64,
 }
 
-impl Span {
+impl Coverage {
     // What pixel `place` of `count` covers of `whole` pixels.
-    fn of(place: u16, count: u16, whole: u16) -> Span {
+    fn of(place: u16, count: u16, whole: u16) -> Coverage {
         let begin = (place as u64).saturating_mul(whole as u64);
-        Span {
+        Coverage {
             begin,
             end: begin.saturating_add(whole as u64),
             unit: count as u64,
@@ -65,9 +65,9 @@ pub fn shrunk(alloc: Global, picture: Inset<'_>) -> Result<Option<Vec<[u8; 4]>>,
     let (across, down) = (width as u16, height as u16);
     let mut shades = Vec::new(alloc);
     for row in 0..down {
-        let rows = Span::of(row, down, picture.down);
+        let rows = Coverage::of(row, down, picture.down);
         for column in 0..across {
-            let columns = Span::of(column, across, picture.across);
+            let columns = Coverage::of(column, across, picture.across);
             shades.push(shade_of(picture, columns, rows))?;
         }
     }
@@ -76,7 +76,7 @@ pub fn shrunk(alloc: Global, picture: Inset<'_>) -> Result<Option<Vec<[u8; 4]>>,
 
 // Returns the mean of what a pixel covers, these columns and rows of the picture: the levels are
 // weighted by opacity, and the opacity by area.
-fn shade_of(picture: Inset<'_>, columns: Span, rows: Span) -> [u8; 4] {
+fn shade_of(picture: Inset<'_>, columns: Coverage, rows: Coverage) -> [u8; 4] {
     let (mut levels, mut opacity) = ([0u64; 3], 0u64);
     for row in rows.pixels() {
         let first = row.saturating_mul(picture.across as u64);

@@ -5,12 +5,12 @@ use crate::columns::{Columns, field_called, identifier_in, is_identifier};
 use crate::tables::Table;
 use goqlanis_files::streams::shown;
 use goqlanis_files::{doubted, usage};
-use goqlanis_options::asked::{Asked, Target, Work};
+use goqlanis_options::asked::{Job, Target, Work};
 use goqlanis_options::fields::Fields;
 use goqlanis_options::nearest::nearest;
 use goqlanis_options::options::fields::option_of;
 use qrcode_contents::fields::errors::Field;
-use qrcode_payloads::given::Given;
+use qrcode_payloads::given::FieldSource;
 use qrcode_payloads::kinds::{Kind, fields_of};
 use std::alloc::{AllocError, Global};
 
@@ -19,7 +19,7 @@ use std::alloc::{AllocError, Global};
 /// payloads without names of columns, and tables in which something is surely missing.
 ///
 /// Errors: `Usage`; a warning if warnings are errors; `OutOfMemory`.
-pub fn check_columns(rt: &HostRuntime, asked: &Asked<'_, '_>, table: &Table<'_>) -> Done<()> {
+pub fn check_columns(rt: &HostRuntime, asked: &Job<'_, '_>, table: &Table<'_>) -> Done<()> {
     let columns = &table.columns;
     match asked.work {
         Work::Payload(fields) => check_payload(rt, fields, asked, table)?,
@@ -61,7 +61,7 @@ pub fn check_columns(rt: &HostRuntime, asked: &Asked<'_, '_>, table: &Table<'_>)
 fn check_payload(
     rt: &HostRuntime,
     fields: Fields<'_, '_>,
-    asked: &Asked<'_, '_>,
+    asked: &Job<'_, '_>,
     table: &Table<'_>,
 ) -> Done<()> {
     let columns = &table.columns;

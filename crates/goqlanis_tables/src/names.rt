@@ -6,7 +6,7 @@ use crate::fields::Line;
 use crate::inputs::is_one_of;
 use goqlanis_files::streams::is_unseen;
 use goqlanis_files::{refused, usage};
-use goqlanis_options::asked::{Asked, Target};
+use goqlanis_options::asked::{Job, Target};
 use goqlanis_options::formats::takes;
 use goqlanis_options::targets::{check_target, is_same_file, reader_of};
 use std::alloc::{AllocError, Global};
@@ -30,14 +30,14 @@ enum Part<'a> {
 
 /// A path with placeholders for numbers and lines.
 #[derive(Drop)]
-pub struct Pattern<'a> {
+pub struct Template<'a> {
     path: &'a str,
     // Whether it has placeholders. If not, the number stands before the file extension.
     has_places: bool,
     parts: Vec<Part<'a>>,
 }
 
-impl<'a> Pattern<'a> {
+impl<'a> Template<'a> {
     /// Parses the path in `--output`, if there is one. With `--lines` one without placeholders is
     /// no pattern if the format has several codes in a file.
     ///
@@ -45,13 +45,13 @@ impl<'a> Pattern<'a> {
     /// `OutOfMemory`.
     pub fn read(
         rt: &HostRuntime,
-        asked: &Asked<'a, '_>,
+        asked: &Job<'a, '_>,
         columns: &Columns,
-    ) -> Done<Option<Pattern<'a>>> {
+    ) -> Done<Option<Template<'a>>> {
         let Target::File(path) = asked.target else {
             return Ok(None);
         };
-        let pattern = Pattern::of(rt.alloc(), path, columns)?;
+        let pattern = Template::of(rt.alloc(), path, columns)?;
         let has_lines = asked.input.lines.is_some();
         if has_lines && !pattern.has_places && takes(asked.request.format, "series") {
             check_target(rt, asked)?;
@@ -63,7 +63,7 @@ impl<'a> Pattern<'a> {
                 "--output {path}: each code gets its own file; name one, e.g. a.png, or leave out \
                 --output for text"
             )
-        } else if Pattern::of(rt.alloc(), folder, columns)?.has_places {
+        } else if Template::of(rt.alloc(), folder, columns)?.has_places {
             usage!(rt.alloc();
                 "--output: {{}}, {{text}} and {{1}} are for the file name, not for its folder"
             )
@@ -77,13 +77,13 @@ impl<'a> Pattern<'a> {
     }
 
     // Parses a path; refuses placeholders that are unknown.
-    fn of(alloc: Global, path: &'a str, columns: &Columns) -> Done<Pattern<'a>> {
+    fn of(alloc: Global, path: &'a str, columns: &Columns) -> Done<Template<'a>> {
         let mut parts = parts_of(alloc, path, columns)?;
         let has_places = parts.iter().any(|part| !matches!(part, Part::Text(_)));
         if !has_places {
             parts = numbered(alloc, path)?;
         }
-        Ok(Pattern {
+        Ok(Template {
             path,
             has_places,
             parts,
@@ -233,7 +233,7 @@ fn is_stream(rt: &HostRuntime, path: &str) -> bool {
 }
 
 /// Checks that a generated name is a plain file, and not the input: no line may write elsewhere.
-pub fn check_made(rt: &HostRuntime, asked: &Asked<'_, '_>, name: &str) -> Done<()> {
+pub fn check_made(rt: &HostRuntime, asked: &Job<'_, '_>, name: &str) -> Done<()> {
     let what = if fs::symlink_metadata(rt, name).is_ok_and(|found| found.is_symlink()) {
         "a link"
     } else if is_stream(rt, name) {

@@ -12,7 +12,7 @@ use goqlanis_files::refused;
 use goqlanis_options::fields::{DECISIVE, OPEN};
 use goqlanis_options::options::fields::option_of;
 use qrcode_contents::fields::errors::Field;
-use qrcode_payloads::given::Given;
+use qrcode_payloads::given::FieldSource;
 use std::alloc::Global;
 
 /// The fields of a payload in a line: names of options with their texts.
@@ -21,7 +21,7 @@ pub struct Row {
     pairs: Vec<(String, String)>,
 }
 
-impl Given for Row {
+impl FieldSource for Row {
     ghost fields = { λ row. texts_of row };
 
     fn text(&self, field: Field) -> &str {
@@ -46,7 +46,7 @@ impl Row {
     ///
     /// Errors: `Refused` if the line is not UTF-8, has fewer fields than columns, or an empty one that
     /// changes what the payload means; `OutOfMemory`.
-    pub fn of<G: Given>(
+    pub fn of<G: FieldSource>(
         alloc: Global,
         columns: &Columns,
         line: &Line<'_>,

@@ -4,10 +4,10 @@ use crate::Done;
 use crate::columns::{Columns, identifier_in, is_identifier};
 use crate::fields::Line;
 use crate::inputs::{is_blank, next_line, text_of, utf8};
-use goqlanis_files::failure::{Doubts, Failure, Place};
+use goqlanis_files::failure::{Doubts, Failure, InputLine};
 use goqlanis_files::streams::shown;
 use goqlanis_files::{doubted, refused, usage};
-use goqlanis_options::asked::{Asked, Lines, Source, Target, Work};
+use goqlanis_options::asked::{InputLines, Job, Source, Target, Work};
 use qrcode_payloads::kinds::Kind;
 use std::alloc::{AllocError, Global};
 use std::io::BufRead;
@@ -16,7 +16,7 @@ use std::io::BufRead;
 #[derive(Drop)]
 pub struct Table<'a> {
     /// How the lines are divided.
-    pub lines: Lines<'a>,
+    pub lines: InputLines<'a>,
     /// Whether they are encoded whole.
     pub is_whole: bool,
     // Whether they have element strings, or their values.
@@ -39,8 +39,8 @@ impl<'a> Table<'a> {
     /// is that of `--field`; `OutOfMemory`.
     pub fn read<R: BufRead>(
         alloc: Global,
-        asked: &Asked<'a, '_>,
-        lines: Lines<'a>,
+        asked: &Job<'a, '_>,
+        lines: InputLines<'a>,
         from: &mut R,
     ) -> Done<Table<'a>> {
         let (name, file) = match asked.input.source {
@@ -51,7 +51,7 @@ impl<'a> Table<'a> {
         let mut line = Vec::new(alloc);
         let has_line = lines.has_header && next_line(alloc, name, from, &mut line, 1)?;
         let first = has_line.then_some(text_of(&line, 1));
-        let (kind, place) = (asked.work.kind(), Place { file, line: 1 });
+        let (kind, place) = (asked.work.kind(), InputLine { file, line: 1 });
         let columns = columns_of(alloc, kind, lines, place, first)?;
         let has_elements = matches!(asked.work, Work::Elements(_));
         let is_whole = !has_elements && kind.is_none() && lines.field.is_none();
@@ -80,8 +80,8 @@ impl<'a> Table<'a> {
     }
 
     /// Returns the place of a line, by its number among those that are encoded, from 1.
-    pub fn place(&self, number: usize) -> Place<'a> {
-        Place {
+    pub fn place(&self, number: usize) -> InputLine<'a> {
+        InputLine {
             file: self.file,
             line: number.saturating_add(usize::from(self.lines.has_header)),
         }
@@ -155,8 +155,8 @@ impl<'a> Table<'a> {
 fn columns_of(
     alloc: Global,
     kind: Option<Kind>,
-    lines: Lines<'_>,
-    place: Place<'_>,
+    lines: InputLines<'_>,
+    place: InputLine<'_>,
     first: Option<&[u8]>,
 ) -> Done<Columns> {
     if let Some(names) = lines.columns {

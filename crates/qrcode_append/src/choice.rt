@@ -8,7 +8,7 @@ ghost use Rattle.qrcode_append.specs.Fewest.{IsAmong, IsLeastAmong, AreCounted, 
 ghost use Rattle.qrcode_append.specs.Symbols.{HoldSeveral, AreSeveral, AreRefused};
 
 use crate::drawing::symbols;
-use crate::holding::{Wanted, hold};
+use crate::holding::{Plan, hold};
 use qrcode::QrCode;
 use qrcode::types::{EcLevel, QrError, QrResult, Version};
 use qrcode_bits::bits::{DATA_LIMIT, Manner};
@@ -108,7 +108,7 @@ pub fn encode_counted(
     }
     match least_number(alloc, bytes, manner, versions, ec_level, count)? {
         Some(number) => {
-            let wanted = Wanted {
+            let wanted = Plan {
                 manner,
                 version: Version::Normal(number as i16),
                 ec_level,
@@ -138,7 +138,7 @@ fn least_number(
     ensures memory { IsOkUnless result OutOfMemory }
 {
     for number in versions.least.max(1)..versions.greatest.min(40) + 1 {
-        let wanted = Wanted {
+        let wanted = Plan {
             manner,
             version: Version::Normal(number as i16),
             ec_level,

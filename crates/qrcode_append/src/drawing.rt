@@ -11,7 +11,7 @@ ghost use Rattle.qrcode_append.specs.Reading.{EachAt};
 ghost use Rattle.qrcode_append.specs.Symbols.{front_length, PartFits, HoldSeveral, IsPartList, IsPartSymbol};
 
 use crate::division::{parity_of, part};
-use crate::holding::Wanted;
+use crate::holding::Plan;
 use qrcode::QrCode;
 use qrcode::types::QrResult;
 use qrcode_bits::bits::Bits;
@@ -43,7 +43,7 @@ fn push_front(bits: &mut Bits, share: Share) -> QrResult<()>
 }
 
 // Writes a part as a terminated list of bits.
-fn part_bits(alloc: Global, bytes: &[u8], wanted: Wanted, share: Share) -> QrResult<Bits>
+fn part_bits(alloc: Global, bytes: &[u8], wanted: Plan, share: Share) -> QrResult<Bits>
     requires exists { IsTrue (has_level wanted.version wanted.ec_level) }
     requires normal { is_micro wanted.version ≡ false }
     requires length_at_most { length bytes.now ≤ data_limit }
@@ -61,7 +61,7 @@ fn part_bits(alloc: Global, bytes: &[u8], wanted: Wanted, share: Share) -> QrRes
 }
 
 // Makes the symbol of a part.
-fn part_symbol(alloc: Global, bytes: &[u8], wanted: Wanted, share: Share) -> QrResult<QrCode>
+fn part_symbol(alloc: Global, bytes: &[u8], wanted: Plan, share: Share) -> QrResult<QrCode>
     requires exists { IsTrue (has_level wanted.version wanted.ec_level) }
     requires normal { is_micro wanted.version ≡ false }
     requires length_at_most { length bytes.now ≤ data_limit }
@@ -79,7 +79,7 @@ fn part_symbol(alloc: Global, bytes: &[u8], wanted: Wanted, share: Share) -> QrR
 pub(crate) fn symbols(
     alloc: Global,
     bytes: &[u8],
-    wanted: Wanted,
+    wanted: Plan,
     count: usize,
 ) -> QrResult<Vec<QrCode>>
     requires { HoldSeveral wanted.manner wanted.version wanted.ec_level bytes.now count }

@@ -19,7 +19,7 @@ use std::alloc::Global;
 
 // How data is written, and the version and level of its symbols.
 #[derive(Copy, Clone)]
-pub(crate) struct Wanted {
+pub(crate) struct Plan {
     pub(crate) manner: Manner,
     pub(crate) version: Version,
     pub(crate) ec_level: EcLevel,
@@ -41,7 +41,7 @@ fn measure(alloc: Global, bytes: &[u8], manner: Manner, version: Version) -> QrR
 }
 
 // Returns whether the data fits into `room` bits after `front` bits.
-fn fits(alloc: Global, bytes: &[u8], wanted: Wanted, front: usize, room: usize) -> QrResult<bool>
+fn fits(alloc: Global, bytes: &[u8], wanted: Plan, front: usize, room: usize) -> QrResult<bool>
     requires valid { IsTrue (is_valid wanted.version) }
     requires length_at_most { length bytes.now ≤ data_limit }
     requires front_at_most { front ≤ 20 }
@@ -61,7 +61,7 @@ fn fits(alloc: Global, bytes: &[u8], wanted: Wanted, front: usize, room: usize) 
 }
 
 // Returns whether `count` symbols hold even parts of the data.
-pub(crate) fn hold(alloc: Global, bytes: &[u8], wanted: Wanted, count: usize) -> QrResult<bool>
+pub(crate) fn hold(alloc: Global, bytes: &[u8], wanted: Plan, count: usize) -> QrResult<bool>
     requires length_at_most { length bytes.now ≤ data_limit }
     requires at_least { 0 < count }
     requires at_most { count ≤ 16 }
@@ -79,13 +79,7 @@ pub(crate) fn hold(alloc: Global, bytes: &[u8], wanted: Wanted, count: usize) ->
 }
 
 // Returns whether each of `count` parts fits a symbol of `room` bits.
-fn parts_fit(
-    alloc: Global,
-    bytes: &[u8],
-    wanted: Wanted,
-    count: usize,
-    room: usize,
-) -> QrResult<bool>
+fn parts_fit(alloc: Global, bytes: &[u8], wanted: Plan, count: usize, room: usize) -> QrResult<bool>
     requires valid { IsTrue (is_valid wanted.version) }
     requires length_at_most { length bytes.now ≤ data_limit }
     requires at_least { 0 < count }

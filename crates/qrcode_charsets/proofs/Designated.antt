@@ -6,13 +6,13 @@ use Rattle.std.proofs.lemmas.Bool.{and_from}
 use Rattle.qrcode_charsets.specs.Charsets.{page_designator, IsWritten}
 use Rattle.qrcode_charsets.specs.Eci.{has_seven_bits, is_taken, is_variant, set_number, BytesAreUnderOneWay, WrittenTextsAreUnder}
 use Rattle.qrcode_charsets.specs.declared.sets.Charset.TheVariants.{Unmarked, Utf8, OneByte, ShiftJis}
-use Rattle.qrcode_charsets.specs.declared.sets.Page.{Page}
-use Rattle.qrcode_charsets.specs.declared.sets.Page.TheVariants.{Latin1, Latin2, Latin3, Latin4, Cyrillic, Arabic, Greek, Hebrew, Latin5, Latin6, Thai, Latin7, Latin8, Latin9, Latin10, Windows1250, Windows1251, Windows1252, Windows1256}
+use Rattle.qrcode_charsets.specs.declared.sets.CodePage.{CodePage}
+use Rattle.qrcode_charsets.specs.declared.sets.CodePage.TheVariants.{Latin1, Latin2, Latin3, Latin4, Cyrillic, Arabic, Greek, Hebrew, Latin5, Latin6, Thai, Latin7, Latin8, Latin9, Latin10, Windows1250, Windows1251, Windows1252, Windows1256}
 use Rattle.qrcode_charsets.proofs.Marks.{same_set}
 use Rattle.qrcode_charsets.proofs.Writings.{read_one_way}
 
 -- the designator of a set of one byte means this set, with all bytes
-means_itself : (p : Page) → (has_seven_bits (page_designator p) ≡ false) × (set_number (page_designator p) ≡ page_designator p)
+means_itself : (p : CodePage) → (has_seven_bits (page_designator p) ≡ false) × (set_number (page_designator p) ≡ page_designator p)
 means_itself Latin1 = (refl, refl)
 means_itself Latin2 = (refl, refl)
 means_itself Latin3 = (refl, refl)

@@ -28,7 +28,7 @@ use Rattle.qrcode_charsets.specs.Shortest.{IsWriting, CanShow}
 use Rattle.qrcode_charsets.specs.Shown.{ArePiecesShown, ShowsIn}
 use Rattle.qrcode_charsets.specs.declared.sets.Charset.{Charset}
 use Rattle.qrcode_charsets.specs.declared.sets.Charset.TheVariants.{Unmarked, Utf8, OneByte, ShiftJis}
-use Rattle.qrcode_charsets.specs.declared.sets.Page.{Page}
+use Rattle.qrcode_charsets.specs.declared.sets.CodePage.{CodePage}
 use Rattle.qrcode_charsets.specs.declared.shortest.measuring.Measured.{Measured}
 use Rattle.qrcode_charsets.proofs.Cuts.{chunks, AreOf, pieces_cut, readable_all, written_within}
 use Rattle.qrcode_charsets.proofs.Shown.{shown_written, shown_modes}
@@ -45,7 +45,7 @@ in_utf8 c e is (p ∷ ps) text h =
     (h.0, h.1, (more.0, (record { mode = subst (λ set. IsTrue (is_among set p.mode)) (sym e) own.mode; written = is h.0 p.chunk own.characters own.utf8 }, in_utf8 c e is ps h.1 more.1.1)))
 
 -- segments that are shown in a set of one byte
-in_page : (page : Page) (ps : List Piece) (text : List ℕ) → AreOf text_modes ps → map (character page) (chunks ps) ≡ map Some text → ArePiecesShown (OneByte page) ps text
+in_page : (page : CodePage) (ps : List Piece) (text : List ℕ) → AreOf text_modes ps → map (character page) (chunks ps) ≡ map Some text → ArePiecesShown (OneByte page) ps text
 in_page page [] [] a e = refl
 in_page page [] (c ∷ text) a e = cc
 in_page page (p ∷ ps) text a e =

@@ -15,14 +15,14 @@ use Rattle.qrcode_charsets.specs.Charsets.{page_designator, designator}
 use Rattle.qrcode_charsets.specs.Fronts.{designator_bits, front, has_front}
 use Rattle.qrcode_charsets.specs.declared.sets.Charset.{Charset}
 use Rattle.qrcode_charsets.specs.declared.sets.Charset.TheVariants.{Unmarked, Utf8, OneByte, ShiftJis}
-use Rattle.qrcode_charsets.specs.declared.sets.Page.{Page}
-use Rattle.qrcode_charsets.specs.declared.sets.Page.TheVariants.{Latin1, Latin2, Latin3, Latin4, Cyrillic, Arabic, Greek, Hebrew, Latin5, Latin6, Thai, Latin7, Latin8, Latin9, Latin10, Windows1250, Windows1251, Windows1252, Windows1256}
+use Rattle.qrcode_charsets.specs.declared.sets.CodePage.{CodePage}
+use Rattle.qrcode_charsets.specs.declared.sets.CodePage.TheVariants.{Latin1, Latin2, Latin3, Latin4, Cyrillic, Arabic, Greek, Hebrew, Latin5, Latin6, Thai, Latin7, Latin8, Latin9, Latin10, Windows1250, Windows1251, Windows1252, Windows1256}
 
 -- the set of one byte with each designator
-page_of : ℕ → Page
+page_of : ℕ → CodePage
 page_of n = slice_index_or (Latin1 ∷ Latin2 ∷ Latin3 ∷ Latin4 ∷ Cyrillic ∷ Arabic ∷ Greek ∷ Hebrew ∷ Latin5 ∷ Latin6 ∷ Thai ∷ Latin1 ∷ Latin7 ∷ Latin8 ∷ Latin9 ∷ Latin10 ∷ Latin1 ∷ Latin1 ∷ Windows1250 ∷ Windows1251 ∷ Windows1252 ∷ Windows1256 ∷ []) (n - 3) Latin1
 
-page_small : (p : Page) → page_designator p ≤ 24
+page_small : (p : CodePage) → page_designator p ≤ 24
 page_small p = grind (arith, nat_tests)
 
 -- a set has a designator of one byte, and the version an ECI, or neither
@@ -42,7 +42,7 @@ unmarked_or (OneByte p) = inr (record { number = page_designator p; is = refl; s
 set_of : ℕ → Charset
 set_of n = if n == 20 then ShiftJis else (if n == 26 then Utf8 else OneByte (page_of n))
 
-page_set : (p : Page) → set_of (page_designator p) ≡ OneByte p
+page_set : (p : CodePage) → set_of (page_designator p) ≡ OneByte p
 unfolding page_of set_of
 page_set p = grind (arith, nat_tests)
 

@@ -10,12 +10,12 @@ use Rattle.qrcode_charsets.specs.Charsets.{IsWritten, Has}
 use Rattle.qrcode_charsets.specs.Codes.{code_bytes}
 use Rattle.qrcode_charsets.specs.ShiftJis.{pair_character, shift_jis_characters}
 use Rattle.qrcode_charsets.specs.declared.sets.Charset.TheVariants.{ShiftJis}
-use Rattle.qrcode_charsets.specs.declared.texts.Code.{Code}
+use Rattle.qrcode_charsets.specs.declared.texts.CharBytes.{CharBytes}
 use Rattle.qrcode_charsets.proofs.PairCodes.{IsFirst, first_code, single_is, pair_is, no_code, no_single}
 use Rattle.qrcode_charsets.proofs.Writings.{chars_push}
 
 -- what is found of a character that takes no single byte
-pub pair_found : (x : ℕ) (r : Option Code) → 128 ≤ x → ¬ ((0xFF61 ≤ x) × (x ≤ 0xFF9F))
+pub pair_found : (x : ℕ) (r : Option CharBytes) → 128 ≤ x → ¬ ((0xFF61 ≤ x) × (x ≤ 0xFF9F))
     → MatchOption r ((b c : ℕ) → IsTrue (is_lead b) → ¬ (pair_character b c ≡ Some x)) (λ code. shift_jis_characters (code_bytes code) ≡ Some x ∷ [])
     → MatchOption r (¬ Has ShiftJis (x ∷ [])) (λ code. IsWritten ShiftJis (x ∷ []) (code_bytes code))
 pair_found x None high wide h = λ has. no_code x (no_single x high wide) h has.0 has.1

@@ -8,7 +8,7 @@ use Rattle.std.proofs.Math.Utf8.{low_scalar}
 use Rattle.std.proofs.lemmas.List.{get_or_past}
 use Rattle.qrcode_charsets.specs.Table.{character_table}
 use Rattle.qrcode_charsets.specs.Charsets.{page_designator, characters, character, CharactersAreApart}
-use Rattle.qrcode_charsets.specs.declared.sets.Page.{Page}
+use Rattle.qrcode_charsets.specs.declared.sets.CodePage.{CodePage}
 use Rattle.qrcode_charsets.specs.declared.table.TheConstants.{CHARACTERS}
 
 -- the table in the code is the one of the definition
@@ -38,7 +38,7 @@ all_rows : list_all is_row character_table ≡ true
 unfolding character_table
 all_rows = refl
 
-row_of : (p : Page) → (is_apart (characters p) ≡ true) × (list_all is_cell (characters p) ≡ true) × (length (characters p) ≤ 128)
+row_of : (p : CodePage) → (is_apart (characters p) ≡ true) × (list_all is_cell (characters p) ≡ true) × (length (characters p) ≤ 128)
 unfolding characters
 row_of p =
     let row = slice_index_or character_table (page_designator p - 3) [] in
@@ -47,7 +47,7 @@ row_of p =
     (two.0, three.0, leb-true (length row) 128 three.1)
 
 -- a character in a cell
-pub cell_bounds : (p : Page) (i : ℕ) → ¬ (get_or (characters p) i 0 ≡ 0) → (128 ≤ get_or (characters p) i 0) × (get_or (characters p) i 0 < 0xD800)
+pub cell_bounds : (p : CodePage) (i : ℕ) → ¬ (get_or (characters p) i 0 ≡ 0) → (128 ≤ get_or (characters p) i 0) × (get_or (characters p) i 0 < 0xD800)
 cell_bounds p i some =
     let c = get_or (characters p) i 0 in
     elim (or_cases _ _ (read_passes is_cell (characters p) 0 i (row_of p).1 refl)) [
@@ -74,16 +74,16 @@ apart_at (x ∷ xs) (suc i) zero h e some = elim (or_cases (x == 0) _ (and_parts
 apart_at (x ∷ xs) (suc i) (suc j) h e some = ap suc (apart_at xs i j (and_parts _ (is_apart xs) h).1 e some)
 
 -- what it means that a byte has a character
-abbrev pub HasCharacter : Page → ℕ → ℕ → Type 0
+abbrev pub HasCharacter : CodePage → ℕ → ℕ → Type 0
 HasCharacter p b c = ((b < 128) × (b ≡ c)) ⊎ ((128 ≤ b) × (get_or (characters p) (b - 128) 0 ≡ c) × ¬ (c ≡ 0))
 
-above : (p : Page) (b : ℕ) → 128 ≤ b → ¬ (get_or (characters p) (b - 128) 0 ≡ 0) → character p b ≡ Some (get_or (characters p) (b - 128) 0)
+above : (p : CodePage) (b : ℕ) → 128 ≤ b → ¬ (get_or (characters p) (b - 128) 0 ≡ 0) → character p b ≡ Some (get_or (characters p) (b - 128) 0)
 above p b high some = cond-false (nat_lt b 128) _ _ (le-ltb b 128 high) ∙ cond-false (get_or (characters p) (b - 128) 0 == 0) _ _ (ne_eqb _ 0 some)
 
-nothing : (p : Page) (b : ℕ) → 128 ≤ b → get_or (characters p) (b - 128) 0 ≡ 0 → character p b ≡ None
+nothing : (p : CodePage) (b : ℕ) → 128 ≤ b → get_or (characters p) (b - 128) 0 ≡ 0 → character p b ≡ None
 nothing p b high none = cond-false (nat_lt b 128) _ _ (le-ltb b 128 high) ∙ cond-true (get_or (characters p) (b - 128) 0 == 0) _ _ (eq-eqb _ 0 none)
 
-low_is : (p : Page) (b : ℕ) → b < 128 → character p b ≡ Some b
+low_is : (p : CodePage) (b : ℕ) → b < 128 → character p b ≡ Some b
 low_is p b low = cond-true (nat_lt b 128) (Some b) _ (lt-ltb b 128 low)
 
 same_item : (o : Option ℕ) (a b : ℕ) → o ≡ Some a → o ≡ Some b → a ≡ b
@@ -92,7 +92,7 @@ same_item o a b e f = cc
 no_item : (o : Option ℕ) (a : ℕ) → o ≡ None → o ≡ Some a → ⊥
 no_item o a e f = cc
 
-pub has_character : (p : Page) (b c : ℕ) → character p b ≡ Some c → HasCharacter p b c
+pub has_character : (p : CodePage) (b c : ℕ) → character p b ≡ Some c → HasCharacter p b c
 has_character p b c e = elim (cases_lt b 128) [
   | inl low ↦ inl (low, same_item (character p b) b c (low_is p b low) e)
   | inr high ↦ elim (cases_eq (get_or (characters p) (b - 128) 0) 0) [
@@ -103,14 +103,14 @@ has_character p b c e = elim (cases_lt b 128) [
   ]
 ]
 
-pub is_character : (p : Page) (b c : ℕ) → HasCharacter p b c → character p b ≡ Some c
+pub is_character : (p : CodePage) (b c : ℕ) → HasCharacter p b c → character p b ≡ Some c
 is_character p b c h = elim h [
   | inl low ↦ cond-true (nat_lt b 128) (Some b) _ (lt-ltb b 128 low.0) ∙ ap Some low.1
   | inr cell ↦ above p b cell.0 (λ none. cell.2 (sym cell.1 ∙ none)) ∙ ap Some cell.1
 ]
 
 -- an ASCII character is in no cell
-not_both : (p : Page) (a b c : ℕ) → a < 128 → a ≡ c → get_or (characters p) (b - 128) 0 ≡ c → ¬ (c ≡ 0) → ⊥
+not_both : (p : CodePage) (a b c : ℕ) → a < 128 → a ≡ c → get_or (characters p) (b - 128) 0 ≡ c → ¬ (c ≡ 0) → ⊥
 not_both p a b c low e f some = omega (arith, low, e, f, (cell_bounds p (b - 128) (λ none. some (sym f ∙ none))).0)
 
 pub characters_apart : CharactersAreApart
@@ -128,7 +128,7 @@ characters_apart p a b c e f = elim (has_character p a c e) [
 ]
 
 -- a character that is no ASCII and in no cell has no byte
-pub no_byte : (p : Page) (c : ℕ) → 128 ≤ c → ((i : ℕ) → i < 128 → ¬ (get_or (characters p) i 0 ≡ c)) → (b : ℕ) → ¬ (character p b ≡ Some c)
+pub no_byte : (p : CodePage) (c : ℕ) → 128 ≤ c → ((i : ℕ) → i < 128 → ¬ (get_or (characters p) i 0 ≡ c)) → (b : ℕ) → ¬ (character p b ≡ Some c)
 no_byte p c high none b e = elim (has_character p b c e) [
   | inl low ↦ omega (arith, low.0, low.1, high)
   | inr cell ↦ elim (cases_lt (b - 128) 128) [
@@ -138,11 +138,11 @@ no_byte p c high none b e = elim (has_character p b c e) [
 ]
 
 -- what is read from a cell is the character of the byte
-pub character_read : (p : Page) (b c : ℕ) → 128 ≤ b → c ≡ get_or (characters p) (b - 128) 0 → ¬ (c ≡ 0) → Some c ≡ character p b
+pub character_read : (p : CodePage) (b c : ℕ) → 128 ≤ b → c ≡ get_or (characters p) (b - 128) 0 → ¬ (c ≡ 0) → Some c ≡ character p b
 character_read p b c high cell some = ap Some cell ∙ sym (above p b high (λ none. some (cell ∙ none)))
 
 -- a character of a byte is one of Unicode
-pub character_scalar : (p : Page) (b c : ℕ) → character p b ≡ Some c → IsScalar c
+pub character_scalar : (p : CodePage) (b c : ℕ) → character p b ≡ Some c → IsScalar c
 character_scalar p b c e = elim (has_character p b c e) [
   | inl low ↦ low_scalar c (omega (arith, low.0, low.1))
   | inr cell ↦ low_scalar c (omega (arith, cell.1, (cell_bounds p (b - 128) (λ none. cell.2 (sym cell.1 ∙ none))).1))

@@ -9,15 +9,15 @@ use Rattle.std.proofs.lemmas.Str.{chars-encodes, encodes-append, length-encode, 
 use Rattle.qrcode_charsets.specs.Charsets.{character, IsWritten, Has, TextsAreWrittenOneWay, BytesAreReadOneWay}
 use Rattle.qrcode_charsets.specs.declared.sets.Charset.{Charset}
 use Rattle.qrcode_charsets.specs.declared.sets.Charset.TheVariants.{Unmarked, Utf8, OneByte, ShiftJis}
-use Rattle.qrcode_charsets.specs.declared.sets.Page.{Page}
+use Rattle.qrcode_charsets.specs.declared.sets.CodePage.{CodePage}
 use Rattle.qrcode_charsets.proofs.PairCodes as pairs
 use Rattle.qrcode_charsets.proofs.Rows.{characters_apart, character_scalar}
 
 -- two lists with the same characters have the same length
-lengths : (p : Page) (text bytes : List ℕ) → map (character p) bytes ≡ map Some text → length bytes ≡ length text
+lengths : (p : CodePage) (text bytes : List ℕ) → map (character p) bytes ≡ map Some text → length bytes ≡ length text
 lengths p text bytes e = sym (length-map bytes (character p)) ∙ ap length e ∙ length-map text Some
 
-one_spelling : (p : Page) (text bytes others : List ℕ) → map (character p) bytes ≡ map Some text → map (character p) others ≡ map Some text → others ≡ bytes
+one_spelling : (p : CodePage) (text bytes others : List ℕ) → map (character p) bytes ≡ map Some text → map (character p) others ≡ map Some text → others ≡ bytes
 one_spelling p [] [] [] e f = refl
 one_spelling p [] [] (o ∷ others) e f = cc
 one_spelling p [] (b ∷ bytes) others e f = cc
@@ -64,7 +64,7 @@ chars_push utf8 c u s =
     chars-append utf8 (encode_utf8 c) u ∙ ap (λ (x : List ℕ). chars utf8 ++ x) (own ∙ ap (λ (x : List ℕ). c ∷ x) chars-nil)
 
 -- the byte of one character
-pub has_byte : (p : Page) (c : ℕ) → Has (OneByte p) (c ∷ []) → (b : ℕ) × (character p b ≡ Some c)
+pub has_byte : (p : CodePage) (c : ℕ) → Has (OneByte p) (c ∷ []) → (b : ℕ) × (character p b ≡ Some c)
 has_byte p c ([], e) = cc
 has_byte p c (b ∷ bytes, e) = (b, cc)
 
@@ -109,7 +109,7 @@ written_at_most (OneByte p) text bytes e = omega (arith, lengths p text bytes e,
 written_at_most ShiftJis text bytes e = omega (arith, (pairs.code_lengths text bytes e).1)
 
 -- the characters of the first bytes, and of the others
-pub written_split : (p : Page) (bytes more text : List ℕ) → map (character p) (bytes ++ more) ≡ map Some text
+pub written_split : (p : CodePage) (bytes more text : List ℕ) → map (character p) (bytes ++ more) ≡ map Some text
     → (first rest : List ℕ) × (text ≡ first ++ rest) × (map (character p) bytes ≡ map Some first) × (map (character p) more ≡ map Some rest)
 written_split p [] more text e = ([], text, refl, refl, e)
 written_split p (b ∷ bytes) more [] e = cc
@@ -120,7 +120,7 @@ written_split p (b ∷ bytes) more (c ∷ text) e =
     (c ∷ r.0, r.1, ap (λ (x : List ℕ). c ∷ x) r.2, ap₂ (λ (x : Option ℕ) (xs : List (Option ℕ)). x ∷ xs) head r.3, r.4)
 
 -- the bytes of the first characters, and of the others
-written_parts : (p : Page) (bytes a b : List ℕ) → map (character p) bytes ≡ map Some (a ++ b)
+written_parts : (p : CodePage) (bytes a b : List ℕ) → map (character p) bytes ≡ map Some (a ++ b)
     → (first rest : List ℕ) × (map (character p) first ≡ map Some a) × (map (character p) rest ≡ map Some b)
 written_parts p bytes [] b e = ([], bytes, refl, e)
 written_parts p [] (c ∷ a) b e = cc
@@ -157,7 +157,7 @@ pub in_utf8 : (c : Charset) → (c ≡ Unmarked) ⊎ (c ≡ Utf8) → (text byte
 in_utf8 c is text bytes w = elim is [ inl e ↦ subst (λ d. IsWritten d text bytes) (sym e) w | inr e ↦ subst (λ d. IsWritten d text bytes) (sym e) w ]
 
 -- a byte without a character is in no text
-pub no_text : (p : Page) (bytes text : List ℕ) (i : ℕ) → i < length bytes → character p (get_or bytes i 0) ≡ None → map (character p) bytes ≡ map Some text → ⊥
+pub no_text : (p : CodePage) (bytes text : List ℕ) (i : ℕ) → i < length bytes → character p (get_or bytes i 0) ≡ None → map (character p) bytes ≡ map Some text → ⊥
 no_text p [] text i inside none e = omega (arith, inside)
 no_text p (b ∷ bytes) [] i inside none e = cc
 no_text p (b ∷ bytes) (c ∷ text) zero inside none e =
@@ -169,7 +169,7 @@ no_text p (b ∷ bytes) (c ∷ text) (suc i) inside none e =
     no_text p bytes text i (omega (arith, inside)) none tail
 
 -- one more byte is read
-pub read_more : (p : Page) (bytes : List ℕ) (i c : ℕ) (old new : List ℕ) → i < length bytes → character p (get_or bytes i 0) ≡ Some c → IsUtf8 old → new ≡ old ++ encode_utf8 c
+pub read_more : (p : CodePage) (bytes : List ℕ) (i c : ℕ) (old new : List ℕ) → i < length bytes → character p (get_or bytes i 0) ≡ Some c → IsUtf8 old → new ≡ old ++ encode_utf8 c
     → map (character p) (take i bytes) ≡ map Some (chars old) → map (character p) (take (i + 1) bytes) ≡ map Some (chars new)
 read_more p bytes i c old new inside is utf8 pushed before =
     let b = get_or bytes i 0 in

@@ -5,10 +5,10 @@ use Rattle.qrcode_charsets.specs.ShiftJis.{shift_jis_characters}
 use Rattle.qrcode_charsets.specs.Table.{character_table}
 use Rattle.qrcode_charsets.specs.declared.sets.Charset.{Charset}
 use Rattle.qrcode_charsets.specs.declared.sets.Charset.TheVariants.{Unmarked, Utf8, OneByte, ShiftJis}
-use Rattle.qrcode_charsets.specs.declared.sets.Page.{Page}
-use Rattle.qrcode_charsets.specs.declared.sets.Page.TheVariants.{Latin1, Latin2, Latin3, Latin4, Cyrillic, Arabic, Greek, Hebrew, Latin5, Latin6, Thai, Latin7, Latin8, Latin9, Latin10, Windows1250, Windows1251, Windows1252, Windows1256}
+use Rattle.qrcode_charsets.specs.declared.sets.CodePage.{CodePage}
+use Rattle.qrcode_charsets.specs.declared.sets.CodePage.TheVariants.{Latin1, Latin2, Latin3, Latin4, Cyrillic, Arabic, Greek, Hebrew, Latin5, Latin6, Thai, Latin7, Latin8, Latin9, Latin10, Windows1250, Windows1251, Windows1252, Windows1256}
 
-abbrev pub page_designator : Page → ℕ  -- the ECI designator of a set of one byte
+abbrev pub page_designator : CodePage → ℕ  -- the ECI designator of a set of one byte
 page_designator Latin1 = 3
 page_designator Latin2 = 4
 page_designator Latin3 = 5
@@ -29,11 +29,11 @@ page_designator Windows1251 = 22
 page_designator Windows1252 = 23
 page_designator Windows1256 = 24
 
-unfoldable pub characters : Page → List ℕ  -- the characters of the bytes from 128 on, 0 for a byte that has none
+unfoldable pub characters : CodePage → List ℕ  -- the characters of the bytes from 128 on, 0 for a byte that has none
 characters p = slice_index_or character_table (page_designator p - 3) []
 
 -- The character of a byte, if it has one: below 128 that of ASCII, from 128 on that of the table.
-abbrev pub character : Page → ℕ → Option ℕ
+abbrev pub character : CodePage → ℕ → Option ℕ
 character p b =
     if nat_lt b 128 then Some b else
     (if slice_index (characters p) (b - 128) == 0 then None else Some (slice_index (characters p) (b - 128)))
@@ -43,7 +43,7 @@ big_end unit = unit / 256 ∷ unit % 256 ∷ []
 
 -- no two bytes of a set of one byte have the same character
 abbrev pub CharactersAreApart : Type 0
-CharactersAreApart = (p : Page) (a b c : ℕ) → character p a ≡ Some c → character p b ≡ Some c → a ≡ b
+CharactersAreApart = (p : CodePage) (a b c : ℕ) → character p a ≡ Some c → character p b ≡ Some c → a ≡ b
 
 abbrev pub IsWritten : Charset → (text bytes : List ℕ) → Type 0  -- the bytes are the text in the set, and the text is what a reader decodes them to
 IsWritten Unmarked text bytes = IsTrue (all_scalars text) × (encode_utf8_all text ≡ bytes)

@@ -9,7 +9,7 @@ use crate::table::CHARACTERS;
 /// A character set of one byte for each character, with its ECI designator. The first 128
 /// characters are those of ASCII.
 #[derive(PartialEq, Eq, Debug, Copy, Clone)]
-pub enum Page {
+pub enum CodePage {
     /// ISO/IEC 8859-1: Latin alphabet No. 1, for Western Europe.
     Latin1 = 3,
     /// ISO/IEC 8859-2: Latin alphabet No. 2, for Central Europe.
@@ -58,7 +58,7 @@ pub enum Charset {
     /// UTF-8 after its designator.
     Utf8,
     /// A set of one byte for each character, after its designator.
-    OneByte(Page),
+    OneByte(CodePage),
     /// Shift JIS after its designator: ASCII, half-width katakana and the characters of JIS X 0208,
     /// except eight that readers show differently.
     ShiftJis,
@@ -68,13 +68,13 @@ pub enum Charset {
 /// zbar show: ISO/IEC 8859, Shift JIS and UTF-8.
 #[rattlefmt::skip]
 pub static CHARSETS: [Charset; 18] = [
-    Charset::Unmarked, Charset::OneByte(Page::Latin1), Charset::OneByte(Page::Latin2),
-    Charset::OneByte(Page::Latin3), Charset::OneByte(Page::Latin4),
-    Charset::OneByte(Page::Cyrillic), Charset::OneByte(Page::Arabic),
-    Charset::OneByte(Page::Greek), Charset::OneByte(Page::Hebrew), Charset::OneByte(Page::Latin5),
-    Charset::OneByte(Page::Latin6), Charset::OneByte(Page::Thai), Charset::OneByte(Page::Latin7),
-    Charset::OneByte(Page::Latin8), Charset::OneByte(Page::Latin9),
-    Charset::OneByte(Page::Latin10), Charset::ShiftJis, Charset::Utf8,
+    Charset::Unmarked, Charset::OneByte(CodePage::Latin1), Charset::OneByte(CodePage::Latin2),
+    Charset::OneByte(CodePage::Latin3), Charset::OneByte(CodePage::Latin4),
+    Charset::OneByte(CodePage::Cyrillic), Charset::OneByte(CodePage::Arabic),
+    Charset::OneByte(CodePage::Greek), Charset::OneByte(CodePage::Hebrew), Charset::OneByte(CodePage::Latin5),
+    Charset::OneByte(CodePage::Latin6), Charset::OneByte(CodePage::Thai), Charset::OneByte(CodePage::Latin7),
+    Charset::OneByte(CodePage::Latin8), Charset::OneByte(CodePage::Latin9),
+    Charset::OneByte(CodePage::Latin10), Charset::ShiftJis, Charset::Utf8,
 ];
 
 impl Charset {
@@ -98,26 +98,26 @@ impl Charset {
             (λ set. charsets.designator set ≡ Some number) }
     {
         let page = match number {
-            3 => Page::Latin1,
-            4 => Page::Latin2,
-            5 => Page::Latin3,
-            6 => Page::Latin4,
-            7 => Page::Cyrillic,
-            8 => Page::Arabic,
-            9 => Page::Greek,
-            10 => Page::Hebrew,
-            11 => Page::Latin5,
-            12 => Page::Latin6,
-            13 => Page::Thai,
-            15 => Page::Latin7,
-            16 => Page::Latin8,
-            17 => Page::Latin9,
-            18 => Page::Latin10,
+            3 => CodePage::Latin1,
+            4 => CodePage::Latin2,
+            5 => CodePage::Latin3,
+            6 => CodePage::Latin4,
+            7 => CodePage::Cyrillic,
+            8 => CodePage::Arabic,
+            9 => CodePage::Greek,
+            10 => CodePage::Hebrew,
+            11 => CodePage::Latin5,
+            12 => CodePage::Latin6,
+            13 => CodePage::Thai,
+            15 => CodePage::Latin7,
+            16 => CodePage::Latin8,
+            17 => CodePage::Latin9,
+            18 => CodePage::Latin10,
             20 => return Some(Charset::ShiftJis),
-            21 => Page::Windows1250,
-            22 => Page::Windows1251,
-            23 => Page::Windows1252,
-            24 => Page::Windows1256,
+            21 => CodePage::Windows1250,
+            22 => CodePage::Windows1251,
+            23 => CodePage::Windows1252,
+            24 => CodePage::Windows1256,
             26 => return Some(Charset::Utf8),
             _ => return None,
         };
@@ -125,7 +125,7 @@ impl Charset {
     }
 }
 
-impl Page {
+impl CodePage {
     /// Returns the ECI designator of the set.
     pub fn designator(self) -> u32
         ensures value { result ≡ charsets.page_designator self }

@@ -10,12 +10,12 @@ ghost use Rattle.qrcode_charsets.specs.declared.sets.Charset.TheVariants.{ShiftJ
 
 use crate::pairs_high::HIGH_PAIRS;
 use crate::pairs_low::LOW_PAIRS;
-use crate::texts::Code;
+use crate::texts::CharBytes;
 use qrcode_types::characters::is_lead;
 use std::alloc::{AllocError, Global};
 
 // Returns the bytes of `character`, or `None` if the set lacks it.
-pub(crate) fn code(character: char) -> Option<Code>
+pub(crate) fn code(character: char) -> Option<CharBytes>
     ensures { MatchOption result (¬ Has ShiftJis (character ∷ []))
         (λ code. IsWritten ShiftJis (character ∷ []) (code_bytes code)) }
 {
@@ -23,16 +23,16 @@ pub(crate) fn code(character: char) -> Option<Code>
         return None;
     }
     if character < '\u{80}' {
-        return Some(Code::One(character as u8));
+        return Some(CharBytes::One(character as u8));
     }
     match character {
-        '\u{ff61}'..='\u{ff9f}' => Some(Code::One((u32::from(character) - 0xfec0) as u8)),
+        '\u{ff61}'..='\u{ff9f}' => Some(CharBytes::One((u32::from(character) - 0xfec0) as u8)),
         _ => pair_of(character),
     }
 }
 
 // Returns the two bytes of `character`, which is not U+0000, if they are its code.
-fn pair_of(character: char) -> Option<Code>
+fn pair_of(character: char) -> Option<CharBytes>
     requires { character ≢ 0 }
     ensures { MatchOption result
         ((b c : ℕ) → IsTrue (is_lead b) → pairs.pair_character b c ≢ Some character)
@@ -40,7 +40,7 @@ fn pair_of(character: char) -> Option<Code>
 {
     for lead in 0x81..0xeb_u8 {
         if let Some(trail) = trail_of(lead, character) {
-            return Some(Code::Two(u16::from_be_bytes([lead, trail])));
+            return Some(CharBytes::Two(u16::from_be_bytes([lead, trail])));
         }
     }
     None

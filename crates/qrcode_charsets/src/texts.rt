@@ -5,30 +5,30 @@ ghost use Rattle.qrcode_charsets.specs.Charsets.{IsWritten, Has};
 ghost use Rattle.qrcode_charsets.specs.Codes.{code_bytes};
 ghost use Rattle.qrcode_charsets.specs.declared.sets.Charset.TheVariants.{OneByte};
 
-use crate::sets::{Charset, Page};
+use crate::sets::{Charset, CodePage};
 use crate::shift_jis;
 use std::alloc::{AllocError, Global};
 
 // The bytes of a character: those of UTF-8, one byte, or two.
 #[derive(Copy, Clone)]
-pub(crate) enum Code {
+pub(crate) enum CharBytes {
     Utf8(char),
     One(u8),
     Two(u16),
 }
 
-impl Code {
+impl CharBytes {
     // Appends the bytes to `bytes`.
     fn push_to(self, bytes: &mut Vec<u8>) -> Result<(), AllocError>
         ensures { OnOk result (bytes.new.items ≡ bytes.old.items ++ code_bytes self) }
     {
         match self {
-            Code::Utf8(character) => {
+            CharBytes::Utf8(character) => {
                 let mut buffer = [0; 4];
                 bytes.extend_from_slice(character.encode_utf8(&mut buffer).as_bytes())
             }
-            Code::One(byte) => Ok(bytes.push(byte)?),
-            Code::Two(unit) => bytes.extend_from_slice(&unit.to_be_bytes()),
+            CharBytes::One(byte) => Ok(bytes.push(byte)?),
+            CharBytes::Two(unit) => bytes.extend_from_slice(&unit.to_be_bytes()),
         }
     }
 }
@@ -90,14 +90,14 @@ impl Charset {
     }
 
     // Returns the bytes of `character` in this set, or `None` if the set lacks it.
-    fn code(self, character: char) -> Option<Code>
+    fn code(self, character: char) -> Option<CharBytes>
         ensures { MatchOption result (¬ Has self (character ∷ []))
             (λ code. IsWritten self (character ∷ []) (code_bytes code)) }
     {
         match self {
-            Charset::Unmarked | Charset::Utf8 => Some(Code::Utf8(character)),
+            Charset::Unmarked | Charset::Utf8 => Some(CharBytes::Utf8(character)),
             Charset::OneByte(page) => match page.byte(character) {
-                Some(byte) => Some(Code::One(byte)),
+                Some(byte) => Some(CharBytes::One(byte)),
                 None => None,
             },
             Charset::ShiftJis => shift_jis::code(character),
@@ -105,7 +105,7 @@ impl Charset {
     }
 }
 
-impl Page {
+impl CodePage {
     // Returns the text that `bytes` are in this set, or `None` if one of them has no character.
     fn decode(self, alloc: Global, bytes: &[u8]) -> Result<Option<String>, AllocError>
         ensures { IfOk result (λ found. MatchOption found

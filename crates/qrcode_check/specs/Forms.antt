@@ -41,11 +41,11 @@ counts_at r line i =
 unfoldable pub line_forms : FormReading → List Color → ℕ  -- 40 for each form in a line
 line_forms r line = sum_below (length line - 6) (λ i. count_if (counts_at r line i) 40)
 
-abbrev pub row_of : ℕ → List Color → ℕ → List Color  -- a row of a square of side w
-row_of w s y = take w (drop (y * w) s)
+abbrev pub square_row : ℕ → List Color → ℕ → List Color  -- a row of a square of side w
+square_row w s y = take w (drop (y * w) s)
 
 unfoldable pub row_forms : FormReading → ℕ → List Color → ℕ  -- the same in all rows
-row_forms r w s = sum_below w (λ y. line_forms r (row_of w s y))
+row_forms r w s = sum_below w (λ y. line_forms r (square_row w s y))
 
 abbrev pub forms : FormReading → ℕ → List Color → ℕ  -- the same in all rows and columns
 forms r w s = row_forms r w s + row_forms r w (seen w Transposed false s)

@@ -4,7 +4,7 @@
 ghost use Rattle.std.specs.Prelude.{◌≡◌, ◌+◌, ◌*◌, ◌<◌, ◌≤◌, length, IsTrue, IfOk};
 ghost use Rattle.qrcode_types.specs.Versions.{is_valid, side};
 ghost use Rattle.qrcode_penalty.specs.Penalty.{is_finder_like};
-ghost use Rattle.qrcode_check.specs.Forms.{are_light, counts_at, dark_in, forms, has_short_ends, is_light, line_forms, read_penalty, reading, row_forms, row_of};
+ghost use Rattle.qrcode_check.specs.Forms.{are_light, counts_at, dark_in, forms, has_short_ends, is_light, line_forms, read_penalty, reading, row_forms, square_row};
 ghost use Rattle.qrcode_check.specs.Masks.{stepped_penalty};
 
 use qrcode_reader::{Position, seen};
@@ -117,7 +117,7 @@ fn row(width: usize, modules: &[Color], y: usize) -> &[Color]
     requires square { length modules.now ≡ width * width }
     requires width { width ≤ 177 }
     requires inside { y < width }
-    ensures { result.now ≡ row_of width modules.now y }
+    ensures { result.now ≡ square_row width modules.now y }
 {
     let (_, rest) = modules.split_at(y * width);
     rest.split_at(width).0

@@ -7,8 +7,8 @@ use Rattle.std.proofs.lemmas.List.Elements.{All-nil, All-cons}
 use Rattle.std.proofs.lemmas.List.Folds.{list_any-append}
 use Rattle.std.proofs.lemmas.List.Splits.{slice_split_none, slice_split_at}
 use Rattle.std.proofs.lemmas.Bool.{and_parts}
-use Rattle.qrcode_contents.specs.declared.fields.links.Part.{Part}
-use Rattle.qrcode_contents.specs.declared.fields.links.Part.TheVariants.{Path, Addresses, Value}
+use Rattle.qrcode_contents.specs.declared.fields.links.LinkPart.{LinkPart}
+use Rattle.qrcode_contents.specs.declared.fields.links.LinkPart.TheVariants.{Path, Addresses, Value}
 use Rattle.qrcode_contents.specs.fields.Characters.{is_control, is_other_control, before}
 use Rattle.qrcode_contents.specs.fields.Entries.{Entry, single, is_filled, filled, value_of}
 use Rattle.qrcode_contents.specs.fields.EntryTests.{are_distinct}
@@ -63,13 +63,13 @@ HasNo-value_byte : (c b : ℕ) (feed : Bool) → (b == 10) ≡ feed → is_mark 
 HasNo-value_byte c b true is mark = rw is (mark_break c mark)
 HasNo-value_byte c b false is mark = rw is (HasNo-encoded_byte c b (is_unreserved b) refl mark)
 
-HasNo-part_byte : (c : ℕ) (part : Part) (b : ℕ) → is_mark c ≡ true → HasNo c (part_byte part b)
+HasNo-part_byte : (c : ℕ) (part : LinkPart) (b : ℕ) → is_mark c ≡ true → HasNo c (part_byte part b)
 HasNo-part_byte c Path b mark = HasNo-path_byte c b (b == 64) refl mark
 HasNo-part_byte c Addresses b mark = HasNo-address_byte c b (b == 64) refl mark
 HasNo-part_byte c Value b mark = HasNo-value_byte c b (b == 10) refl mark
 
 -- an encoded part has none of these characters
-pub HasNo-part : (c : ℕ) (part : Part) (bytes : List ℕ) → is_mark c ≡ true → HasNo c (part_text part bytes)
+pub HasNo-part : (c : ℕ) (part : LinkPart) (bytes : List ℕ) → is_mark c ≡ true → HasNo c (part_text part bytes)
 unfolding part_text
 HasNo-part c part [] mark = refl
 HasNo-part c part (b ∷ bytes) mark =

@@ -3,7 +3,7 @@ use Rattle.std.proofs.Common.{◌≡◌, ℕ, List, None, Some, codes, refl, ap,
 use Rattle.std.specs.List.{list_any}
 use Rattle.qrcode_contents.specs.declared.fields.errors.Field.TheVariants.{Cc, Bcc, Subject, Message}
 use Rattle.qrcode_contents.specs.declared.fields.errors.Cause.TheVariants.{ControlCharacter}
-use Rattle.qrcode_contents.specs.declared.fields.links.Part.TheVariants.{Addresses}
+use Rattle.qrcode_contents.specs.declared.fields.links.LinkPart.TheVariants.{Addresses}
 use Rattle.qrcode_contents.specs.fields.Characters.{is_control, is_other_control}
 use Rattle.qrcode_contents.specs.fields.Links.{part_text}
 use Rattle.qrcode_contents.specs.Mail.{Letter, mail_checks, mail_refusal, mail_parameters, mail_text, read_mail}

@@ -5,7 +5,7 @@ use Rattle.std.specs.Option.{option_map}
 use Rattle.std.proofs.lemmas.Bool.Decides.{nat_tests}
 use Rattle.qrcode_contents.specs.declared.fields.errors.Field.TheVariants.{Secret, Issuer, Account}
 use Rattle.qrcode_contents.specs.declared.fields.errors.Cause.TheVariants.{Character, ControlCharacter}
-use Rattle.qrcode_contents.specs.declared.fields.links.Part.TheVariants.{Path}
+use Rattle.qrcode_contents.specs.declared.fields.links.LinkPart.TheVariants.{Path}
 use Rattle.qrcode_contents.specs.declared.one_time.Factor.{Factor}
 use Rattle.qrcode_contents.specs.declared.one_time.Factor.TheVariants.{Time, Counter}
 use Rattle.qrcode_contents.specs.declared.one_time.Algorithm.{Algorithm}

@@ -5,7 +5,7 @@ use Rattle.std.specs.Option.{option_map}
 use Rattle.qrcode_contents.specs.declared.fields.errors.ContentError.{ContentError}
 use Rattle.qrcode_contents.specs.declared.fields.errors.Field.TheVariants.{Email, Cc, Bcc, Subject, Message}
 use Rattle.qrcode_contents.specs.declared.fields.errors.Cause.TheVariants.{Empty, ControlCharacter, Character}
-use Rattle.qrcode_contents.specs.declared.fields.links.Part.TheVariants.{Addresses}
+use Rattle.qrcode_contents.specs.declared.fields.links.LinkPart.TheVariants.{Addresses}
 use Rattle.qrcode_contents.specs.declared.mail.Mail.{Mail}
 use Rattle.qrcode_contents.specs.fields.Characters.{are_addresses, is_control, is_other_control, before}
 use Rattle.qrcode_contents.specs.fields.Entries.{behind, is_empty}

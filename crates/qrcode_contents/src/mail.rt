@@ -7,7 +7,7 @@ ghost use Rattle.qrcode_contents.specs.fields.Refusals.{Answers, checked};
 
 use crate::fields::characters::are_addresses;
 use crate::fields::errors::{Cause, ContentResult, Field};
-use crate::fields::links::{Part, push_parameters, push_part};
+use crate::fields::links::{LinkPart, push_parameters, push_part};
 use crate::fields::refusals::{controls, other_controls, refuse_first};
 use std::alloc::Global;
 
@@ -58,7 +58,7 @@ impl Mail<'_> {
         ensures memory { IsOkUnless result OutOfMemory }
     {
         let mut text = String::from_str(alloc, "mailto:")?;
-        push_part(&mut text, Part::Addresses, self.address)?;
+        push_part(&mut text, LinkPart::Addresses, self.address)?;
         let query = [
             ("cc", self.cc),
             ("bcc", self.bcc),

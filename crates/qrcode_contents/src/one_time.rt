@@ -9,7 +9,7 @@ ghost use Rattle.qrcode_contents.specs.fields.Refusals.{Answers, checked};
 
 use crate::fields::characters::is_in_base32;
 use crate::fields::errors::{Cause, ContentResult, Field};
-use crate::fields::links::{self, Part, push_part};
+use crate::fields::links::{self, LinkPart, push_part};
 use crate::fields::refusals::{controls, refuse_first};
 use std::alloc::Global;
 
@@ -186,10 +186,10 @@ impl OneTime<'_> {
         ensures memory { IsOkUnless result OutOfMemory }
     {
         if !self.issuer.is_empty() {
-            push_part(text, Part::Path, self.issuer)?;
+            push_part(text, LinkPart::Path, self.issuer)?;
             text.push_str(":")?;
         }
-        push_part(text, Part::Path, self.account)
+        push_part(text, LinkPart::Path, self.account)
     }
 
     // Writes the link without checking the fields.

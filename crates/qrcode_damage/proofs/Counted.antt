@@ -5,7 +5,7 @@ use Rattle.std.proofs.lemmas.Bool.{and_parts, not-true}
 use Rattle.std.proofs.lemmas.Bool.Decides.{nat_tests}
 use Rattle.qrcode_types.specs.Bits.{bit_distance}
 use Rattle.qrcode_layout.specs.Masks.{turned_if}
-use Rattle.qrcode_area.proofs.Beside.{count-cons}
+use Rattle.qrcode_damage.proofs.Beside.{count-cons}
 use Rattle.qrcode_damage.specs.Flips.{count_wrong}
 use Rattle.qrcode_damage.specs.Errors.{is_set}
 

@@ -20,10 +20,10 @@ use Rattle.qrcode_layout.specs.Patterns.{format_copies, is_functional_place}
 use Rattle.qrcode_layout.specs.Stream.{color_at, stream, zigzag, free_places}
 use Rattle.qrcode_layout.specs.declared.masks.MaskPattern.{MaskPattern}
 use Rattle.qrcode_layout.proofs.FormatPlaces.{format_copies_are_indexed}
-use Rattle.qrcode_area.specs.Areas.{marks, block_in}
-use Rattle.qrcode_area.proofs.Beside.{distance_at_most, counted, zip_range, all_with, all_mapped}
-use Rattle.qrcode_area.proofs.Marked.{SameUnmarked, SameWord, UnmarkedSame, WordSame, unmarked_words, words_unmarked, codewords_related, none_in_block, all_in_block}
-use Rattle.qrcode_area.proofs.Shown.{streams_related, copy_inside}
+use Rattle.qrcode_damage.specs.Areas.{marks, block_in}
+use Rattle.qrcode_damage.proofs.Beside.{distance_at_most, counted, zip_range, all_with, all_mapped}
+use Rattle.qrcode_damage.proofs.Marked.{SameUnmarked, SameWord, UnmarkedSame, WordSame, unmarked_words, words_unmarked, codewords_related, none_in_block, all_in_block}
+use Rattle.qrcode_damage.proofs.Shown.{streams_related, copy_inside}
 use Rattle.qrcode_damage.specs.Damage.{IsWrongBy, wrong_bits, pattern_places, version_copies, has_version_word, upper_place, lower_place}
 use Rattle.qrcode_damage.specs.Errors.{is_free_wrong, is_wrong, opposite_if, flipped_module, flipped, AreErrors}
 use Rattle.qrcode_damage.specs.declared.damage.Damage.{Damage}

@@ -1,9 +1,16 @@
 pub mod Ahead
+pub mod Beside
+pub mod Bounds
 pub mod Carried
 pub mod Counted
+pub mod CoveredModules
+pub mod Exact
 pub mod Flipped
+pub mod Marked
 pub mod Places
 pub mod Promised
 pub mod Refused
+pub mod Shown
+pub mod Steps
 pub mod Turned
 pub mod Wrong

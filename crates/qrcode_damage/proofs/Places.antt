@@ -18,7 +18,7 @@ use Rattle.qrcode_ec.proofs.Places.{short_and_long, length_at}
 use Rattle.qrcode_reader.specs.Parts.{data_part, ec_part}
 use Rattle.qrcode_render.proofs.Grids.{range_append}
 use Rattle.qrcode_reader.proofs.Interleaved.{block_is}
-use Rattle.qrcode_area.proofs.Beside.{count-cons}
+use Rattle.qrcode_damage.proofs.Beside.{count-cons}
 use Rattle.qrcode_damage.specs.Flips.{count_wrong, AreHigh, shortest_block, length_in, place_of}
 
 pub row_at : (b : Blocks) (k i : ℕ) → i < b.short_length → place_of b k i ≡ i * count_of b + k

@@ -16,8 +16,8 @@ use Rattle.qrcode_layout.specs.declared.masks.MaskPattern.{MaskPattern}
 use Rattle.qrcode_symbol.specs.Symbol.{blocks_in, IsDamaged}
 use Rattle.qrcode_symbol.specs.Reading.{ReadsBitsOnly}
 use Rattle.qrcode.specs.Reading.{EncodesBits, EncodesBytes, ReadsOnly}
-use Rattle.qrcode_area.specs.Areas.{block_in}
-use Rattle.qrcode_area.proofs.Beside.{all_mapped}
+use Rattle.qrcode_damage.specs.Areas.{block_in}
+use Rattle.qrcode_damage.proofs.Beside.{all_mapped}
 use Rattle.qrcode_damage.specs.Damage.{IsWrongBy, IsPromised, wrong_bits}
 use Rattle.qrcode_damage.specs.Laws.{PromiseIsExact}
 use Rattle.qrcode_damage.specs.declared.damage.Damage.{Damage}

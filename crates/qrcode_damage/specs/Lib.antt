@@ -1,5 +1,11 @@
+pub mod Areas
+pub mod Counting
+pub mod Covered
 pub mod Damage
 pub mod Errors
 pub mod Flips
 pub mod Laid
 pub mod Laws
+pub mod Rectangles
+pub mod Refusals
+pub mod Reserves

@@ -1,4 +1,8 @@
 pub mod Bars
+pub mod Data
 pub mod Drawings
+pub mod Files
+pub mod Printed
+pub mod Squares
 pub mod Tickets
 pub mod Wants

@@ -8,7 +8,7 @@ use Rattle.qrcode_gs1.specs.Refusals.{refusal_from}
 use Rattle.qrcode.specs.Code.{Code}
 use Rattle.qrcode_gs1.specs.symbol.Elements.{IsGs1Refused}
 use Rattle.qrcode_gs1.specs.symbol.Symbols.{IsMarkedRefused}
-use Rattle.qrcode_gs1.specs.declared.symbol.Position.TheVariants.{First}
+use Rattle.qrcode_gs1.specs.declared.symbol.Fnc1.TheVariants.{First}
 use Rattle.qrcode_gs1.specs.declared.symbol.errors.SymbolError.{SymbolError}
 use Rattle.qrcode_gs1.specs.declared.symbol.errors.SymbolError.TheVariants.{Symbol}
 

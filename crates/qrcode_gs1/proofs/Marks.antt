@@ -10,7 +10,7 @@ use Rattle.qrcode_bits.specs.declared.bits.ExtendedMode.TheVariants.{Fnc1First, 
 use Rattle.qrcode_bits.proofs.Changed.{append_fits}
 use Rattle.qrcode_bits.proofs.Numbers.{length-number_bits}
 use Rattle.qrcode_gs1.specs.symbol.Characters.{mark}
-use Rattle.qrcode_gs1.specs.declared.symbol.Position.TheVariants.{First, Second}
+use Rattle.qrcode_gs1.specs.declared.symbol.Fnc1.TheVariants.{First, Second}
 
 pub length-first : length (mark First) ≡ 4
 length-first = length-number_bits 4 5

@@ -23,7 +23,7 @@ use Rattle.qrcode_bits.proofs.Shortness.{capacity_at_most}
 use Rattle.qrcode_gs1.specs.symbol.Characters.{characters_for, characters, shown, marked_pieces}
 use Rattle.qrcode_gs1.specs.symbol.Cuts.{IsMarkedCut, AreCharacters, marked_cost}
 use Rattle.qrcode_gs1.specs.symbol.Symbols.{HoldsMarked}
-use Rattle.qrcode_gs1.specs.declared.symbol.Position.{Position}
+use Rattle.qrcode_gs1.specs.declared.symbol.Fnc1.{Fnc1}
 use Rattle.qrcode_gs1.proofs.Cuts.{AreStanding, cost_first, segment_costs}
 use Rattle.qrcode_gs1.proofs.Shown.{characters_written, chunk_shown}
 
@@ -142,11 +142,11 @@ cost_long v bytes from (s ∷ ss) t are =
     )
 
 -- if a version holds bytes, it has three bits for each
-pub held_short : (p : Position) (l : EcLevel) (bytes : List ℕ) (n : ℕ) → HoldsMarked p l bytes n → 3 * length bytes ≤ capacity (Normal (pos n)) l
+pub held_short : (p : Fnc1) (l : EcLevel) (bytes : List ℕ) (n : ℕ) → HoldsMarked p l bytes n → 3 * length bytes ≤ capacity (Normal (pos n)) l
 held_short p l bytes n holds = omega (arith, cost_long (Normal (pos n)) bytes 0 holds.segments holds.cut.tiles holds.cut.standing, holds.room)
 
 -- so there are few of them
-pub held_few : (p : Position) (l : EcLevel) (bytes : List ℕ) (n : ℕ) → HoldsMarked p l bytes n → length bytes ≤ 23648
+pub held_few : (p : Fnc1) (l : EcLevel) (bytes : List ℕ) (n : ℕ) → HoldsMarked p l bytes n → length bytes ≤ 23648
 held_few p l bytes n holds = omega (arith, held_short p l bytes n holds, capacity_at_most (Normal (pos n)) l)
 
 -- the version of a small number

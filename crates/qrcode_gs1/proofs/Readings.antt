@@ -15,11 +15,11 @@ use Rattle.qrcode.proofs.Readings.{bits_are_read_one_way}
 use Rattle.qrcode_gs1.specs.symbol.Characters.{mark, marked_pieces}
 use Rattle.qrcode_gs1.specs.symbol.Reading.{SpellsMarked, ReadsMarkedOnly}
 use Rattle.qrcode_gs1.specs.symbol.Symbols.{HoldsMarked, IsMarkedList, IsMarkedSymbol}
-use Rattle.qrcode_gs1.specs.declared.symbol.Position.{Position}
+use Rattle.qrcode_gs1.specs.declared.symbol.Fnc1.{Fnc1}
 use Rattle.qrcode_gs1.proofs.Spelled.{one_marked}
 
 -- a square decodes to only one list of bytes
-pub reads_marked_only : (s : List Color) (v : Version) (l : EcLevel) (bits : List Bool) (p : Position) (bytes : List ℕ) → ReadsBits s v l bits → SpellsMarked v bits p bytes → ReadsMarkedOnly s p bytes
+pub reads_marked_only : (s : List Color) (v : Version) (l : EcLevel) (bits : List Bool) (p : Fnc1) (bytes : List ℕ) → ReadsBits s v l bits → SpellsMarked v bits p bytes → ReadsMarkedOnly s p bytes
 reads_marked_only s v l bits p bytes read spelled = record {
   found = record { version = v; level = l; bits = bits; read = read; spelled = spelled };
   only = λ others r.
@@ -28,7 +28,7 @@ reads_marked_only s v l bits p bytes read spelled = record {
 }
 
 -- the same for the symbol
-pub symbol_of : (from : ℕ) (p : Position) (n : ℕ) (l : EcLevel) (bytes : List ℕ) (list : BitList) (r : Result Code QrError) → from ≤ n → HoldsMarked p l bytes n → ((other : ℕ) → from ≤ other → HoldsMarked p l bytes other → n ≤ other)
+pub symbol_of : (from : ℕ) (p : Fnc1) (n : ℕ) (l : EcLevel) (bytes : List ℕ) (list : BitList) (r : Result Code QrError) → from ≤ n → HoldsMarked p l bytes n → ((other : ℕ) → from ≤ other → HoldsMarked p l bytes other → n ≤ other)
     → IsMarkedList p (Normal (pos n)) l bytes list → IfOk r (λ code. code.version ≡ list.version) → IfOk r (λ code. code.level ≡ l) → IfOk r (λ code. EncodesBits list.version l list.bits code.modules)
     → IfOk r (IsMarkedSymbol from p l bytes)
 symbol_of from p n l bytes list (Err e) above holds first made version level encodes = tt

@@ -21,11 +21,11 @@ use Rattle.qrcode_gs1.specs.symbol.Characters.{mark, shown, shown_in, marked_pie
 use Rattle.qrcode_gs1.specs.symbol.Cuts.{IsMarkedCut, IsLeastMarkedCut, AreCharacters, marked_cost}
 use Rattle.qrcode_gs1.specs.symbol.Reading.{SpellsMarked}
 use Rattle.qrcode_gs1.specs.symbol.Symbols.{IsMarkedList}
-use Rattle.qrcode_gs1.specs.declared.symbol.Position.{Position}
+use Rattle.qrcode_gs1.specs.declared.symbol.Fnc1.{Fnc1}
 use Rattle.qrcode_gs1.proofs.Pieces.{written_cut, written_cost, cut_shown}
 
 -- the mark and a cut with room, terminated, decode to the bytes
-marked_spelled : (p : Position) (n : ℕ) (l : EcLevel) (bytes : List ℕ) (ss : List Segment) (w : List ℕ) (ranges : List Segment) → AreCharacters bytes ss w ranges → IsTrue (has_level (Normal (pos n)) l)
+marked_spelled : (p : Fnc1) (n : ℕ) (l : EcLevel) (bytes : List ℕ) (ss : List Segment) (w : List ℕ) (ranges : List Segment) → AreCharacters bytes ss w ranges → IsTrue (has_level (Normal (pos n)) l)
     → IsMarkedCut bytes ss → length (mark p) + marked_cost (Normal (pos n)) bytes ss ≤ capacity (Normal (pos n)) l
     → SpellsMarked (Normal (pos n)) (terminated (Normal (pos n)) l (mark p ++ written (Normal (pos n)) (marked_pieces bytes ss))) p bytes
 marked_spelled p n l bytes ss w ranges are exists cut room =
@@ -56,13 +56,13 @@ same_shown v bits (p ∷ ps) (q ∷ qs) a b =
     ap₂ (λ (x y : List ℕ). x ++ y) (ap₂ shown_in r.0 r.1) (same_shown v a.0 ps qs a.1.1.1.1 t)
 
 -- bits decode to only one list of bytes
-pub one_marked : (v : Version) (bits : List Bool) (p : Position) (a b : List ℕ) → SpellsMarked v bits p a → SpellsMarked v bits p b → b ≡ a
+pub one_marked : (v : Version) (bits : List Bool) (p : Fnc1) (a b : List ℕ) → SpellsMarked v bits p a → SpellsMarked v bits p b → b ≡ a
 one_marked v bits p a b s t =
     let same : s.rest ≡ t.rest = append_cancel_left (mark p) s.rest t.rest (sym s.parted ∙ t.parted) in
     sym t.joined ∙ same_shown v s.rest t.pieces s.pieces (subst (λ r. IsReadAs v r t.pieces) (sym same) t.read) s.read ∙ s.joined
 
 -- the data bits of a shortest cut
-pub marked_list : (p : Position) (n : ℕ) (l : EcLevel) (bytes : List ℕ) (ss : List Segment) (v : Version) (w : List ℕ) (ranges : List Segment) (r : Result BitList QrError) → v ≡ Normal (pos n)
+pub marked_list : (p : Fnc1) (n : ℕ) (l : EcLevel) (bytes : List ℕ) (ss : List Segment) (v : Version) (w : List ℕ) (ranges : List Segment) (r : Result BitList QrError) → v ≡ Normal (pos n)
     → AreCharacters bytes ss w ranges → IsTrue (has_level (Normal (pos n)) l) → IsLeastMarkedCut (Normal (pos n)) bytes ss
     → length (mark p) + marked_cost (Normal (pos n)) bytes ss ≤ capacity (Normal (pos n)) l
     → IfOk r (λ list. list ≡ list_of v (terminated v l (mark p ++ written v (pieces_of w ranges)))) → IfOk r (λ list. length list.bits ≡ capacity v l) → IfOk r (IsMarkedList p (Normal (pos n)) l bytes)

@@ -6,7 +6,7 @@ ghost use Rattle.qrcode_types.specs.declared.types.QrError.TheVariants.{OutOfMem
 ghost use Rattle.qrcode_gs1.specs.Items.{item};
 ghost use Rattle.qrcode_gs1.specs.symbol.Elements.{IsGs1Symbol, IsGs1Refused};
 ghost use Rattle.qrcode_gs1.specs.symbol.Symbols.{HoldsMarked, IsMarkedSymbol, IsMarkedRefused};
-ghost use Rattle.qrcode_gs1.specs.declared.symbol.Position.TheVariants.{Second};
+ghost use Rattle.qrcode_gs1.specs.declared.symbol.Fnc1.TheVariants.{Second};
 
 use crate::elements::{Element, element_string};
 use drawing::symbol;
@@ -28,7 +28,7 @@ mod mark;
 
 /// The position of FNC1.
 #[derive(Copy, Clone, PartialEq, Eq, Debug)]
-pub enum Position {
+pub enum Fnc1 {
     /// First position: the bytes are a GS1 element string.
     First,
     /// Second position, with the indicator of an application.
@@ -63,7 +63,7 @@ pub fn gs1_from(
     ensures causes { IfErr result (IsGs1Refused from ec_level (map item elements.now)) }
 {
     let bytes = element_string(alloc, elements)?;
-    Ok(symbol(alloc, &bytes, Position::First, ec_level, from)?)
+    Ok(symbol(alloc, &bytes, Fnc1::First, ec_level, from)?)
 }
 
 /// Encodes `bytes` for an application at `ec_level`, in the smallest Normal version that holds
@@ -103,5 +103,5 @@ pub fn for_application_from(
         → IsOkUnless result OutOfMemory }
     ensures causes { IfErr result (IsMarkedRefused from (Second application) ec_level bytes.now) }
 {
-    symbol(alloc, bytes, Position::Second(application), ec_level, from)
+    symbol(alloc, bytes, Fnc1::Second(application), ec_level, from)
 }

@@ -6,7 +6,7 @@ ghost use Rattle.qrcode_contents.specs.declared.fields.errors.Field.{Field};
 use qrcode_contents::fields::errors::Field;
 
 /// A source of fields: the options of a program, or the texts of a C caller.
-pub trait Given {
+pub trait FieldSource {
     ghost fields: { Self → Field → List ℕ };
 
     /// Returns the text of `field`; empty if none is given.

@@ -13,7 +13,7 @@ ghost use Rattle.qrcode_payloads.specs.Texts.{is_long, long_refusal, content_ref
 ghost use Rattle.qrcode_payloads.specs.declared.kinds.Kind.TheVariants.{Wifi, Mecard, Vcard, Payment, Bill, Mail, Geo, Tel, Sms, Otp, Event, Upi, Pix, Promptpay};
 
 use crate::amounts::plain_amount;
-use crate::given::Given;
+use crate::given::FieldSource;
 use crate::kinds::{Kind, fields_of};
 use crate::plain::{Cleaning, phone_digits, phone_number, pix_key, plain, without_padding};
 use crate::times::{plain_day, plain_time};
@@ -28,7 +28,7 @@ use qrcode_contents::times::Day;
 use qrcode_contents::{bill, event, mail, merchant, payment, upi, wifi};
 use std::alloc::Global;
 
-fn wifi_text<G: Given>(alloc: Global, given: &G) -> ContentResult<String>
+fn wifi_text<G: FieldSource>(alloc: Global, given: &G) -> ContentResult<String>
     ensures { HasText Wifi (G.fields given.now) result }
 {
     let security = values::security(given)?;
@@ -42,7 +42,7 @@ fn wifi_text<G: Given>(alloc: Global, given: &G) -> ContentResult<String>
     network.text(alloc)
 }
 
-fn payment_text<G: Given>(alloc: Global, given: &G) -> ContentResult<String>
+fn payment_text<G: FieldSource>(alloc: Global, given: &G) -> ContentResult<String>
     ensures { HasText Payment (G.fields given.now) result }
 {
     let amount = plain_amount(alloc, given.text(Field::Amount))?;
@@ -65,7 +65,7 @@ fn payment_text<G: Given>(alloc: Global, given: &G) -> ContentResult<String>
     payment.text(alloc)
 }
 
-fn geo_text<G: Given>(alloc: Global, given: &G) -> ContentResult<String>
+fn geo_text<G: FieldSource>(alloc: Global, given: &G) -> ContentResult<String>
     ensures { HasText Geo (G.fields given.now) result }
 {
     let north = plain(alloc, given.text(Field::Latitude).trim(), Cleaning::Degrees)?;
@@ -84,7 +84,7 @@ fn geo_text<G: Given>(alloc: Global, given: &G) -> ContentResult<String>
 }
 
 // The contact of the fields, with this telephone number and birthday.
-fn contact<'a, G: Given>(given: &'a G, phone: &'a str, birthday: Option<Day>) -> Contact<'a>
+fn contact<'a, G: FieldSource>(given: &'a G, phone: &'a str, birthday: Option<Day>) -> Contact<'a>
     ensures { contact_of result ≡ contact_said (G.fields given.now) phone.now birthday }
 {
     Contact {
@@ -103,7 +103,7 @@ fn contact<'a, G: Given>(given: &'a G, phone: &'a str, birthday: Option<Day>) ->
     }
 }
 
-fn mecard_text<G: Given>(alloc: Global, given: &G) -> ContentResult<String>
+fn mecard_text<G: FieldSource>(alloc: Global, given: &G) -> ContentResult<String>
     ensures { HasText Mecard (G.fields given.now) result }
 {
     let day = plain_day(alloc, given.text(Field::Birthday))?;
@@ -112,7 +112,7 @@ fn mecard_text<G: Given>(alloc: Global, given: &G) -> ContentResult<String>
     contact(given, phone.as_str(), birthday).mecard(alloc)
 }
 
-fn vcard_text<G: Given>(alloc: Global, given: &G) -> ContentResult<String>
+fn vcard_text<G: FieldSource>(alloc: Global, given: &G) -> ContentResult<String>
     ensures { HasText Vcard (G.fields given.now) result }
 {
     let day = plain_day(alloc, given.text(Field::Birthday))?;
@@ -137,7 +137,7 @@ fn vcard_text<G: Given>(alloc: Global, given: &G) -> ContentResult<String>
 }
 
 // The creditor of a bill, with this country code.
-fn creditor<'a, G: Given>(given: &'a G, country: &'a str) -> bill::Party<'a>
+fn creditor<'a, G: FieldSource>(given: &'a G, country: &'a str) -> bill::Party<'a>
     ensures { country.now ≡ plain cleaning.Spaces (G.fields given.now Country)
         → addressee_of result ≡ creditor_in (G.fields given.now) }
 {
@@ -152,7 +152,7 @@ fn creditor<'a, G: Given>(given: &'a G, country: &'a str) -> bill::Party<'a>
 }
 
 // The debtor of a bill, with this country code.
-fn debtor<'a, G: Given>(given: &'a G, country: &'a str) -> bill::Party<'a>
+fn debtor<'a, G: FieldSource>(given: &'a G, country: &'a str) -> bill::Party<'a>
     ensures { country.now ≡ plain cleaning.Spaces (G.fields given.now DebtorCountry)
         → addressee_of result ≡ debtor_in (G.fields given.now) }
 {
@@ -166,7 +166,7 @@ fn debtor<'a, G: Given>(given: &'a G, country: &'a str) -> bill::Party<'a>
     }
 }
 
-fn bill_text<G: Given>(alloc: Global, given: &G) -> ContentResult<String>
+fn bill_text<G: FieldSource>(alloc: Global, given: &G) -> ContentResult<String>
     ensures { HasText Bill (G.fields given.now) result }
 {
     let amount = plain_amount(alloc, given.text(Field::Amount))?;
@@ -188,7 +188,7 @@ fn bill_text<G: Given>(alloc: Global, given: &G) -> ContentResult<String>
     bill.text(alloc)
 }
 
-fn mail_text<G: Given>(alloc: Global, given: &G) -> ContentResult<String>
+fn mail_text<G: FieldSource>(alloc: Global, given: &G) -> ContentResult<String>
     ensures { HasText Mail (G.fields given.now) result }
 {
     let mail = mail::Mail {
@@ -201,7 +201,7 @@ fn mail_text<G: Given>(alloc: Global, given: &G) -> ContentResult<String>
     mail.text(alloc)
 }
 
-fn tel_text<G: Given>(alloc: Global, given: &G) -> ContentResult<String>
+fn tel_text<G: FieldSource>(alloc: Global, given: &G) -> ContentResult<String>
     ensures { HasText Tel (G.fields given.now) result }
 {
     let number = phone_number(alloc, given.text(Field::Phone))?;
@@ -224,14 +224,14 @@ fn message_text(alloc: Global, number: &str, body: &str) -> ContentResult<String
 }
 
 // The link that writes a text message.
-fn sms_text<G: Given>(alloc: Global, given: &G) -> ContentResult<String>
+fn sms_text<G: FieldSource>(alloc: Global, given: &G) -> ContentResult<String>
     ensures { HasText Sms (G.fields given.now) result }
 {
     let number = phone_number(alloc, given.text(Field::Phone))?;
     message_text(alloc, number.as_str(), given.text(Field::Message))
 }
 
-fn otp_text<G: Given>(alloc: Global, given: &G) -> ContentResult<String>
+fn otp_text<G: FieldSource>(alloc: Global, given: &G) -> ContentResult<String>
     ensures { HasText Otp (G.fields given.now) result }
 {
     let secret = plain(alloc, given.text(Field::Secret), Cleaning::Person)?;
@@ -249,7 +249,7 @@ fn otp_text<G: Given>(alloc: Global, given: &G) -> ContentResult<String>
     passwords.text(alloc)
 }
 
-fn event_text<G: Given>(alloc: Global, given: &G) -> ContentResult<String>
+fn event_text<G: FieldSource>(alloc: Global, given: &G) -> ContentResult<String>
     ensures { HasText Event (G.fields given.now) result }
 {
     let begin = plain_time(alloc, given.text(Field::Begin))?;
@@ -268,7 +268,7 @@ fn event_text<G: Given>(alloc: Global, given: &G) -> ContentResult<String>
     event.text(alloc)
 }
 
-fn upi_text<G: Given>(alloc: Global, given: &G) -> ContentResult<String>
+fn upi_text<G: FieldSource>(alloc: Global, given: &G) -> ContentResult<String>
     ensures { HasText Upi (G.fields given.now) result }
 {
     let amount = plain_amount(alloc, given.text(Field::Amount))?;
@@ -284,7 +284,7 @@ fn upi_text<G: Given>(alloc: Global, given: &G) -> ContentResult<String>
     payment.text(alloc)
 }
 
-fn pix_text<G: Given>(alloc: Global, given: &G) -> ContentResult<String>
+fn pix_text<G: FieldSource>(alloc: Global, given: &G) -> ContentResult<String>
     ensures { HasText Pix (G.fields given.now) result }
 {
     let key = pix_key(alloc, given.text(Field::Payee))?;
@@ -301,7 +301,7 @@ fn pix_text<G: Given>(alloc: Global, given: &G) -> ContentResult<String>
     payment.text(alloc)
 }
 
-fn promptpay_text<G: Given>(alloc: Global, given: &G) -> ContentResult<String>
+fn promptpay_text<G: FieldSource>(alloc: Global, given: &G) -> ContentResult<String>
     ensures { HasText Promptpay (G.fields given.now) result }
 {
     let payee = plain(alloc, given.text(Field::Payee), Cleaning::Person)?;
@@ -323,7 +323,7 @@ fn is_long(text: &str) -> bool
 }
 
 // Rejects the first field that is too long, before memory is taken for it.
-fn refuse_long<G: Given>(fields: &[Field], given: &G) -> ContentResult<()>
+fn refuse_long<G: FieldSource>(fields: &[Field], given: &G) -> ContentResult<()>
     ensures { result ≡ checked (long_refusal fields.now (G.fields given.now)) }
 {
     let mut rest = fields;
@@ -337,7 +337,7 @@ fn refuse_long<G: Given>(fields: &[Field], given: &G) -> ContentResult<()>
 }
 
 // Writes the text, without checking whether fields have more than 113,424 bytes.
-fn payload_text<G: Given>(alloc: Global, kind: Kind, given: &G) -> ContentResult<String>
+fn payload_text<G: FieldSource>(alloc: Global, kind: Kind, given: &G) -> ContentResult<String>
     ensures { HasText kind (G.fields given.now) result }
 {
     match kind {
@@ -362,7 +362,7 @@ fn payload_text<G: Given>(alloc: Global, kind: Kind, given: &G) -> ContentResult
 ///
 /// Errors: `Refused` with the first field of more than 113,424 bytes, or else the first wrong
 /// field, and its cause; `OutOfMemory` if memory runs out.
-pub fn text_of<G: Given>(alloc: Global, kind: Kind, given: &G) -> ContentResult<String>
+pub fn text_of<G: FieldSource>(alloc: Global, kind: Kind, given: &G) -> ContentResult<String>
     ensures reads { Answers (content_refusal kind (G.fields given.now)) result
         (IsReadAs kind (G.fields given.now)) }
     ensures value { IfOk result

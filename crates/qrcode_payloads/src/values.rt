@@ -4,7 +4,7 @@ ghost use Rattle.std.specs.Prelude.{◌≡◌, ◌≤◌, IfOk};
 ghost use Rattle.qrcode_contents.specs.declared.fields.errors.ContentError.TheVariants.{Refused};
 ghost use Rattle.qrcode_payloads.specs.Values.{number_cause, amount_in, open_amount_in, day_cause, birthday_in, security_in, hidden_in, currency_in, algorithm_in, digits_in, degrees_in, whole_in, factor_in, time_cause, day_span_in, time_span_in, span_in, stamp_in};
 
-use crate::given::Given;
+use crate::given::FieldSource;
 use crate::numbers::{decimal, degrees, unsigned};
 use crate::times::{day_said, is_local, moment_said};
 use crate::words::word;
@@ -77,7 +77,7 @@ pub(crate) fn birthday(text: &str) -> ContentResult<Option<Day>>
 
 /// Returns the security of a network: the given one, else WPA if there is a password, and open if
 /// not.
-pub(crate) fn security<G: Given>(given: &G) -> ContentResult<Security>
+pub(crate) fn security<G: FieldSource>(given: &G) -> ContentResult<Security>
     ensures value { result ≡ security_in (G.fields given.now) }
 {
     let words = [

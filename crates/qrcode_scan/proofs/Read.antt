@@ -18,7 +18,7 @@ use Rattle.qrcode_scan.specs.Wholes.{HasMany, IsGridOf, ShowsCode, Whole}
 use Rattle.qrcode_scan.specs.declared.scanning.Scan.{Scan}
 use Rattle.qrcode_scan.specs.declared.codes.Codes.{Codes}
 use Rattle.qrcode_scan.specs.declared.codes.Missed.{Missed}
-use Rattle.qrcode_scan.specs.declared.codes.Place.{Place}
+use Rattle.qrcode_scan.specs.declared.codes.PixelBounds.{PixelBounds}
 use Rattle.qrcode_scan.specs.declared.codes.Found.{Found}
 use Rattle.qrcode_scan.specs.declared.codes.Found.TheVariants.{Nothing, Missed as MissedAt}
 use Rattle.qrcode_scan.proofs.Sampled.{sampled_length}
@@ -81,7 +81,7 @@ any_kept P xs ys y put any =
     ])
 
 -- two codes are two in either order
-apart_swapped : (p q : Place) → AreApart p q → AreApart q p
+apart_swapped : (p q : PixelBounds) → AreApart p q → AreApart q p
 apart_swapped p q apart = grind (arith, apart)
 
 two_swapped : (x y : Scan) → AreTwo x y → AreTwo y x

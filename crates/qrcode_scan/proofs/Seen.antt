@@ -8,7 +8,7 @@ use Rattle.qrcode_scan.specs.Files.{IsSeenIn}
 use Rattle.qrcode_scan.specs.Shades.{lightness_of, dark_of_shades, IsColoursRefusal}
 use Rattle.qrcode_scan.specs.declared.pixels.Unscanned as unscanned
 use Rattle.qrcode_scan.specs.Scans.{is_png, shade_lightness, IsShownBy, IsPictureOf, IsUnseen}
-use Rattle.qrcode_scan.specs.declared.scanning.Unread.TheVariants.{Unscanned}
+use Rattle.qrcode_scan.specs.declared.scanning.ScanError.TheVariants.{Unscanned}
 
 -- a picture shows the pixels of its PNG image if it begins like a PNG file, else those of its own format
 pub png_picture : (bytes : List ℕ) (b : Bitmap) → is_png bytes ≡ true → IsShownBy bytes b → IsPictureOf bytes b

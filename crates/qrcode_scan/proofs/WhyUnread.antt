@@ -8,8 +8,8 @@ use Rattle.qrcode_reader.specs.declared.positions.Position.{Position}
 use Rattle.qrcode_reader.specs.declared.spell.parts.Part.{Part}
 use Rattle.qrcode_reader.specs.declared.refusals.Unread as reading
 use Rattle.qrcode_scan.specs.Scans.{IsLeastSquareIn, IsNotClean, IsSeenAs, IsUnreadIn, IsUnreadPicture, IsUnseen, HasNoWhole, unread_as}
-use Rattle.qrcode_scan.specs.declared.scanning.Unread.{Unread}
-use Rattle.qrcode_scan.specs.declared.scanning.Unread.TheVariants.{Unscanned, Png, Jpeg, NoSquare, NoSymbol, OutOfMemory}
+use Rattle.qrcode_scan.specs.declared.scanning.ScanError.{ScanError}
+use Rattle.qrcode_scan.specs.declared.scanning.ScanError.TheVariants.{Unscanned, Png, Jpeg, NoSquare, NoSymbol, OutOfMemory}
 
 abbrev pub HasNone : ℕ → List Color → Type 0
 HasNone side modules = (p : Position) (is_inverted : Bool) (bytes : List ℕ) (parts : List Part) → ¬ ReadsParts (seen side p is_inverted modules) bytes parts
@@ -29,12 +29,12 @@ unread_square b count zone scale modules e square why = elim why [
   caused reading.TheVariants.OutOfMemory cause none = tt
 
 -- no square of whole pixels decodes, if memory did not run out
-no_whole : (b : Bitmap) (e : Unread) → ¬ (e ≡ OutOfMemory) → (e ≡ OutOfMemory) ⊎ HasNoWhole b → HasNoWhole b
+no_whole : (b : Bitmap) (e : ScanError) → ¬ (e ≡ OutOfMemory) → (e ≡ OutOfMemory) ⊎ HasNoWhole b → HasNoWhole b
 no_whole b e other (inl memory) = absurd (other memory)
 no_whole b e other (inr none) = none
 
 -- the pixels of a picture do not decode
-pub unread_picture : (bytes : List ℕ) (b : Bitmap) (i : Bool) (e : Unread) → IsSeenAs bytes b i → IsUnreadIn b e → (e ≡ OutOfMemory) ⊎ HasNoWhole b → IsUnreadPicture bytes e
+pub unread_picture : (bytes : List ℕ) (b : Bitmap) (i : Bool) (e : ScanError) → IsSeenAs bytes b i → IsUnreadIn b e → (e ≡ OutOfMemory) ⊎ HasNoWhole b → IsUnreadPicture bytes e
 unread_picture bytes b i (Unscanned e) seen unread none = absurd unread
 unread_picture bytes b i (Png e) seen unread none = absurd unread
 unread_picture bytes b i Jpeg seen unread none = absurd unread
@@ -45,7 +45,7 @@ unread_picture bytes b i (NoSymbol count e) seen unread none =
 unread_picture bytes b i OutOfMemory seen unread none = tt
 
 -- no square in a plain margin decodes, unless memory ran out
-pub not_clean : (b : Bitmap) (e : Unread) → IsUnreadIn b e → ¬ (e ≡ OutOfMemory) → IsNotClean b
+pub not_clean : (b : Bitmap) (e : ScanError) → IsUnreadIn b e → ¬ (e ≡ OutOfMemory) → IsNotClean b
 not_clean b (Unscanned e) unread other = absurd unread
 not_clean b (Png e) unread other = absurd unread
 not_clean b Jpeg unread other = absurd unread
@@ -54,7 +54,7 @@ not_clean b (NoSymbol count e) unread other = inr (count, (e, unread))
 not_clean b OutOfMemory unread other = absurd (other refl)
 
 -- a picture without pixels does not decode
-pub unseen_picture : (bytes : List ℕ) (e : Unread) → IsUnseen bytes e → IsUnreadPicture bytes e
+pub unseen_picture : (bytes : List ℕ) (e : ScanError) → IsUnseen bytes e → IsUnreadPicture bytes e
 unseen_picture bytes (Unscanned e) unseen = unseen
 unseen_picture bytes (Png e) unseen = unseen
 unseen_picture bytes Jpeg unseen = unseen

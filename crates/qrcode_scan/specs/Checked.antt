@@ -9,13 +9,13 @@ use Rattle.qrcode_check.specs.Checks.{IsCheck}
 use Rattle.qrcode_check.specs.declared.checking.Check.{Check}
 use Rattle.qrcode_scan.specs.Scans.{IsLeastSquareIn, IsScanOf, IsSeenAs, IsUnreadPicture}
 use Rattle.qrcode_scan.specs.declared.scanning.Scan.{Scan}
-use Rattle.qrcode_scan.specs.declared.scanning.Unread.{Unread}
-use Rattle.qrcode_scan.specs.declared.scanning.Unread.TheVariants.{NoSymbol}
+use Rattle.qrcode_scan.specs.declared.scanning.ScanError.{ScanError}
+use Rattle.qrcode_scan.specs.declared.scanning.ScanError.TheVariants.{NoSymbol}
 
 abbrev pub HasSquare : Scan → Type 0  -- the square of a code has as many modules as its side says
 HasSquare scan = scan.square.count * scan.square.count ≡ length scan.square.modules.items
 
-abbrev pub unspelled : ℕ → Unread  -- why a square with `count` modules a side does not decode: its bits are no headers and segments
+abbrev pub unspelled : ℕ → ScanError  -- why a square with `count` modules a side does not decode: its bits are no headers and segments
 unspelled count = NoSymbol count reading.TheVariants.NotSpelled
 
 -- check is the check of a decoded code: of its modules, in the position in which they decode
@@ -56,5 +56,5 @@ abbrev pub AreChecksOf : List ℕ → List Scan → List Check → Type 0
 AreChecksOf bytes scans checks = AreScanChecks bytes scans checks ⊎ IsOnlyCheck bytes scans checks
 
 -- why a picture has no checks: it does not decode, for another cause than that its bits are no headers and segments
-abbrev pub IsUncheckedPicture : List ℕ → Unread → Type 0
+abbrev pub IsUncheckedPicture : List ℕ → ScanError → Type 0
 IsUncheckedPicture bytes e = IsUnreadPicture bytes e × ((count : ℕ) → e ≢ unspelled count)

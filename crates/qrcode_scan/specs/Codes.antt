@@ -13,7 +13,7 @@ use Rattle.qrcode_scan.specs.declared.scanning.Scan.{Scan}
 use Rattle.qrcode_scan.specs.Wholes.{HasMany, IsGridOf, ShowsCode, Whole}
 use Rattle.qrcode_scan.specs.declared.codes.Codes.{Codes}
 use Rattle.qrcode_scan.specs.declared.codes.Missed as missed
-use Rattle.qrcode_scan.specs.declared.codes.Place.{Place}
+use Rattle.qrcode_scan.specs.declared.codes.PixelBounds.{PixelBounds}
 use Rattle.qrcode_scan.specs.declared.codes.Found.{Found}
 use Rattle.qrcode_scan.specs.declared.grids.Grid.{Grid}
 use Rattle.qrcode_scan.specs.declared.codes.Found.TheVariants.{Nothing, Code, Missed}
@@ -54,7 +54,7 @@ inner_side one other = (one * one + other * other) / max (one + other) 1
 
 -- The place of a grid in pixels: the square of its modules. Of a turned grid it is the largest upright square in that one with the same middle. x and y
 -- are twice the middle, in fractions of a pixel: halfway between the middles of the pixels at the centres of the first and the last module.
-abbrev pub place_of : Grid → Place
+abbrev pub place_of : Grid → PixelBounds
 place_of g =
     let parts = max g.parts 1 in
     let width = g.count * inner_side g.across g.fall in
@@ -70,7 +70,7 @@ place_of g =
     }
 
 -- two places have no pixel in common: one ends before the other begins, across or down
-abbrev pub AreApart : Place → Place → Type 0
+abbrev pub AreApart : PixelBounds → PixelBounds → Type 0
 AreApart p q = (p.right ≤ q.left) ⊎ ((q.right ≤ p.left) ⊎ ((p.bottom ≤ q.top) ⊎ (q.bottom ≤ p.top)))
 
 -- the places of two squares that do not decode have no pixel in common; so none is told twice

@@ -1,8 +1,8 @@
 -- The bytes that a reader passes on for headers and segments (ISO/IEC 18004:2006, 6.4.8): those of the segments, except that after FNC1 a % in
 -- Alphanumeric mode is a separator, and %% is a %. Headers give no bytes, not even an application's indicator.
 use Rattle.std.specs.Prelude.{ℕ, Bool, true, false, ◌||◌, List, [], ◌∷◌, ◌++◌, take, drop, if◌then◌else◌}
-use Rattle.qrcode_gs1.specs.declared.symbol.Position.{Position}
-use Rattle.qrcode_gs1.specs.declared.symbol.Position.TheVariants.{First, Second}
+use Rattle.qrcode_gs1.specs.declared.symbol.Fnc1.{Fnc1}
+use Rattle.qrcode_gs1.specs.declared.symbol.Fnc1.TheVariants.{First, Second}
 use Rattle.qrcode_gs1.specs.symbol.Characters.{shown_in}
 use Rattle.qrcode_reader.specs.declared.spell.headers.Header.{Header}
 use Rattle.qrcode_reader.specs.declared.spell.headers.Header.TheVariants.{Eci, Fnc1First, Fnc1Second, StructuredAppend}
@@ -10,7 +10,7 @@ use Rattle.qrcode_reader.specs.declared.spell.parts.Part.{Part}
 use Rattle.qrcode_reader.specs.declared.spell.parts.Part.TheVariants.{Front, Bytes}
 use Rattle.qrcode_reader.specs.spell.Parts.{byte_count}
 
-abbrev pub fnc1 : Position → Header  -- the header for FNC1 in this position
+abbrev pub fnc1 : Fnc1 → Header  -- the header for FNC1 in this position
 fnc1 First = Fnc1First
 fnc1 (Second n) = Fnc1Second n
 

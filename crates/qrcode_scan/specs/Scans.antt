@@ -4,7 +4,7 @@ use Rattle.std.specs.List.{starts_with}
 use Rattle.std.specs.Option.{option_map}
 use Rattle.qrcode_types.specs.declared.types.Color.{Color}
 use Rattle.qrcode_render.specs.Bitmap.{Bitmap}
-use Rattle.qrcode_gs1.specs.declared.symbol.Position as gs1
+use Rattle.qrcode_gs1.specs.declared.symbol.Fnc1 as gs1
 use Rattle.qrcode_gs1.specs.symbol.Reading.{ReadsMarkedOnly}
 use Rattle.qrcode_scan.specs.Files.{IsSeenIn, IsUnscanned}
 use Rattle.qrcode_png.specs.Image.{Image, Shade, image_of}
@@ -24,8 +24,8 @@ use Rattle.qrcode_reader.specs.declared.refusals.Unread as reading
 use Rattle.qrcode_scan.specs.HandedOn.{fnc1, handed_on}
 use Rattle.qrcode_scan.specs.Wholes.{HasMany, ShowsCode, Whole}
 use Rattle.qrcode_scan.specs.declared.scanning.Scan.{Scan}
-use Rattle.qrcode_scan.specs.declared.scanning.Unread.{Unread}
-use Rattle.qrcode_scan.specs.declared.scanning.Unread.TheVariants.{Unscanned, Png, Jpeg, NoSquare, NoSymbol, OutOfMemory}
+use Rattle.qrcode_scan.specs.declared.scanning.ScanError.{ScanError}
+use Rattle.qrcode_scan.specs.declared.scanning.ScanError.TheVariants.{Unscanned, Png, Jpeg, NoSquare, NoSymbol, OutOfMemory}
 
 -- the pixels show this square of modules in a plain margin, and no square with fewer modules a side whose first row has a dark module
 pub record IsLeastSquareIn (b : Bitmap) (count zone scale : ℕ) (modules : List Color) : Type 0 where
@@ -52,7 +52,7 @@ pub record IsReadAs (scan : Scan) : Type 0 where
   pub handed : scan.any.reading.data.items ≡ handed_on false scan.parts.items bytes
   pub plain : headers_in scan.parts.items ≡ [] → IsFirstReading scan.square.count scan.square.modules.items scan.any.position scan.any.is_inverted
       scan.any.reading.version scan.any.reading.ec_level scan.any.reading.mask scan.any.reading.data.items scan.any.reading.wrong.items
-  pub marked : (p : gs1.Position) (segments : List Part) → scan.parts.items ≡ Front (fnc1 p) ∷ segments → headers_in segments ≡ []
+  pub marked : (p : gs1.Fnc1) (segments : List Part) → scan.parts.items ≡ Front (fnc1 p) ∷ segments → headers_in segments ≡ []
       → ReadsMarkedOnly (seen scan.square.count scan.any.position scan.any.is_inverted scan.square.modules.items) p scan.any.reading.data.items
 
 -- the code's square is the one in a grid: each module has the colour of the pixel at its centre; the scale is rounded down to whole pixels (of a turned
@@ -75,7 +75,7 @@ pub record ShowsNoSymbol (b : Bitmap) (count : ℕ) (e : reading.Unread) : Type 
   pub cause : IsPartsCause modules e
   pub none : (p : Position) (is_inverted : Bool) (bytes : List ℕ) (parts : List Part) → ¬ ReadsParts (seen count p is_inverted modules) bytes parts
 
-abbrev pub IsUnreadIn : Bitmap → Unread → Type 0  -- why pixels do not decode
+abbrev pub IsUnreadIn : Bitmap → ScanError → Type 0  -- why pixels do not decode
 IsUnreadIn b (Unscanned e) = ⊥
 IsUnreadIn b (Png e) = ⊥
 IsUnreadIn b Jpeg = ⊥
@@ -127,7 +127,7 @@ abbrev pub IsLargeImage : List ℕ → unscanned.Unscanned → Type 0
 IsLargeImage bytes e = (image : Image) × ((image_of bytes ≡ Some image) × IsColoursRefusal (length image.pixels) image.across image.down e)
 
 -- why bytes show no pixels: what is wrong with them, or why they are not a PNG file that can be read
-abbrev pub IsUnseen : List ℕ → Unread → Type 0
+abbrev pub IsUnseen : List ℕ → ScanError → Type 0
 IsUnseen bytes (Unscanned e) = ((is_png bytes ≡ false) × IsUnscanned bytes e) ⊎ IsLargeImage bytes e
 IsUnseen bytes (Png e) = (is_png bytes ≡ true) × IsRefused bytes e
 IsUnseen bytes Jpeg = is_jpeg bytes ≡ true
@@ -143,7 +143,7 @@ pub record IsScanOf (bytes : List ℕ) (scan : Scan) : Type 0 where
   pub read : IsReadAs scan
 
 -- the error for pixels whose square with `count` modules a side does not decode
-abbrev pub unread_as : ℕ → reading.Unread → Unread
+abbrev pub unread_as : ℕ → reading.Unread → ScanError
 unread_as count reading.TheVariants.OutOfMemory = OutOfMemory
 unread_as count reading.TheVariants.NoSuchSide = NoSymbol count reading.TheVariants.NoSuchSide
 unread_as count reading.TheVariants.NoFormat = NoSymbol count reading.TheVariants.NoFormat
@@ -155,14 +155,14 @@ abbrev pub HasNoWhole : Bitmap → Type 0
 HasNoWhole b = (w : Whole) → ShowsCode b w → HasMany b
 
 -- the picture has pixels, and e is why they do not decode; nor does a square of whole pixels in them
-pub record HasUnreadPixels (bytes : List ℕ) (e : Unread) : Type 0 where
+pub record HasUnreadPixels (bytes : List ℕ) (e : ScanError) : Type 0 where
   pub pixels : Bitmap
   pub is_inverted : Bool
   pub seen : IsSeenAs bytes pixels is_inverted
   pub unread : IsUnreadIn pixels e
   pub none : HasNoWhole pixels
 
-abbrev pub IsUnreadPicture : List ℕ → Unread → Type 0  -- why a picture does not decode
+abbrev pub IsUnreadPicture : List ℕ → ScanError → Type 0  -- why a picture does not decode
 IsUnreadPicture bytes (Unscanned e) = IsUnseen bytes (Unscanned e)
 IsUnreadPicture bytes (Png e) = IsUnseen bytes (Png e)
 IsUnreadPicture bytes Jpeg = IsUnseen bytes Jpeg

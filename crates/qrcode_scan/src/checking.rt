@@ -6,7 +6,7 @@ ghost use Rattle.qrcode_scan.specs.Checked.{AreChecksOf, HasSquare, IsCheckOfSca
 ghost use Rattle.qrcode_scan.specs.Codes.{IsMissedOf};
 
 use crate::codes::{Codes, read_codes};
-use crate::scanning::{Scan, Unread, seen_in};
+use crate::scanning::{Scan, ScanError, seen_in};
 use crate::squares::square_of;
 use qrcode_check::{Check, check_seen, check_square};
 use std::alloc::{AllocError, Global};
@@ -26,7 +26,7 @@ pub struct Checks {
 /// margin are no headers and segments, checks that square.
 ///
 /// Errors: those of `read_codes`, except that bits which are no headers and segments are no error.
-pub fn check_codes(alloc: Global, bytes: &[u8]) -> Result<Checks, Unread>
+pub fn check_codes(alloc: Global, bytes: &[u8]) -> Result<Checks, ScanError>
     ensures each { IfOk result (λ found.
         AreChecksOf bytes.now found.codes.scans.items found.checks.items) }
     ensures some { IfOk result (λ found. 1 ≤ length found.checks.items) }
@@ -35,7 +35,7 @@ pub fn check_codes(alloc: Global, bytes: &[u8]) -> Result<Checks, Unread>
 {
     match read_codes(alloc, bytes) {
         Ok(codes) => Ok(checked(alloc, codes)?),
-        Err(Unread::NoSymbol(_, qrcode_reader::Unread::NotSpelled)) => {
+        Err(ScanError::NoSymbol(_, qrcode_reader::Unread::NotSpelled)) => {
             Ok(only(alloc, unspelled(alloc, bytes)?)?)
         }
         Err(cause) => Err(cause),

@@ -2,7 +2,7 @@
 
 ghost use Rattle.std.specs.Prelude.{◌^◌, ◌+◌, ◌-◌, ◌/◌, ◌≡◌, ◌≤◌, ◌<◌, ◌⊎◌, ◌++◌, ◌∷◌, [], ℕ, Some, All, AllPairs, Any, insert, length, IsTrue, IsFalse, IfOk, IfErr, OnOk};
 ghost use Rattle.qrcode_reader.specs.declared.refusals.Unread.TheVariants.{OutOfMemory};
-ghost use Rattle.qrcode_scan.specs.declared.scanning.Unread.TheVariants.{OutOfMemory as NoMemory};
+ghost use Rattle.qrcode_scan.specs.declared.scanning.ScanError.TheVariants.{OutOfMemory as NoMemory};
 ghost use Rattle.qrcode_scan.specs.Codes.{inner_side, place_of, AreApart, AreCodesIn, AreOther, AreTwo, FindsWholes, FindsWholesOf, HasGrid, IsApartFrom, IsCodeFound, IsFoundAs, IsFoundBy, IsMissedOf, IsProbable, Overlaps};
 ghost use Rattle.qrcode_scan.specs.Wholes.{HasMany, IsGridOf, IsWholeIn, ShowsCode, Whole};
 ghost use Rattle.qrcode_scan.specs.declared.codes.Found.TheVariants.{Nothing, Missed as MissedAt};
@@ -49,7 +49,7 @@ enum Found {
 
 // The pixels that a square takes: from `left` to before `right`, and from `top` to before `bottom`.
 #[derive(Clone, Copy)]
-pub(crate) struct Place {
+pub(crate) struct PixelBounds {
     pub(crate) left: usize,
     pub(crate) top: usize,
     pub(crate) right: usize,
@@ -73,7 +73,7 @@ pub struct Codes {
 ///
 /// Errors: why nothing decodes; so without an error there is at least one code.
 #[tactic(auto, using(crate::proofs::WhyUnread::unread_picture, crate::proofs::WhyUnread::unseen_picture, crate::proofs::Read::scans_of, crate::proofs::Read::missed_of))]
-pub fn read_codes(alloc: Global, bytes: &[u8]) -> Result<Codes, scanning::Unread>
+pub fn read_codes(alloc: Global, bytes: &[u8]) -> Result<Codes, scanning::ScanError>
     ensures value { IfOk result (λ codes. All (IsScanOf bytes.now) codes.scans.items) }
     ensures some { IfOk result (λ codes. 1 ≤ length codes.scans.items) }
     ensures once { IfOk result (λ codes. AllPairs AreTwo codes.scans.items) }
@@ -91,7 +91,7 @@ pub fn read_codes(alloc: Global, bytes: &[u8]) -> Result<Codes, scanning::Unread
 
 // Decodes the codes in pixels whose dark and light may have been exchanged.
 #[tactic(auto, using(crate::proofs::Read::only_code, crate::proofs::WhyUnread::not_clean))]
-fn codes_in(alloc: Global, pixels: &Pixels, is_inverted: bool) -> Result<Codes, scanning::Unread>
+fn codes_in(alloc: Global, pixels: &Pixels, is_inverted: bool) -> Result<Codes, scanning::ScanError>
     ensures codes { IfOk result (AreCodesIn pixels.now is_inverted) }
     ensures some { IfOk result (λ codes. 1 ≤ length codes.scans.items) }
     ensures whole { IfOk result (λ codes. FindsWholes pixels.now codes.scans.items) }
@@ -103,7 +103,7 @@ fn codes_in(alloc: Global, pixels: &Pixels, is_inverted: bool) -> Result<Codes, 
         Err(cause) => cause,
     };
     match cause {
-        scanning::Unread::OutOfMemory => Err(cause),
+        scanning::ScanError::OutOfMemory => Err(cause),
         _ => {
             let codes = codes_found(alloc, pixels, is_inverted)?;
             if codes.scans.is_empty() {
@@ -308,7 +308,7 @@ fn is_over(scan: &Scan, grid: &Grid) -> bool
 }
 
 // The pixels that a grid's modules take; of a turned grid, the largest upright square of them.
-fn place_of(grid: &Grid) -> Place
+fn place_of(grid: &Grid) -> PixelBounds
     ensures { result ≡ place_of grid.now }
 {
     let parts = grid.parts.max(1);
@@ -319,7 +319,7 @@ fn place_of(grid: &Grid) -> Place
     let y = 2 * grid.top + parts + steps * grid.down + steps * grid.fall;
     let (left, right) = ends(x, width, parts);
     let (top, bottom) = ends(y, height, parts);
-    Place {
+    PixelBounds {
         left,
         top,
         right,
@@ -350,7 +350,7 @@ fn inner_side(one: usize, other: usize) -> usize
 }
 
 // Whether two squares have pixels in common.
-fn overlap(one: Place, other: Place) -> bool
+fn overlap(one: PixelBounds, other: PixelBounds) -> bool
     ensures apart { IsFalse result → AreApart one other }
     ensures together { IsTrue result → ¬ AreApart one other }
 {
@@ -361,6 +361,6 @@ fn overlap(one: Place, other: Place) -> bool
 }
 
 // Whether a square is above another, or next to it on the left.
-fn precedes(one: Place, other: Place) -> bool {
+fn precedes(one: PixelBounds, other: PixelBounds) -> bool {
     one.bottom <= other.top || (one.top < other.bottom && one.left < other.left)
 }

@@ -28,7 +28,7 @@ pub(crate) struct Finder {
 // The finder patterns of a picture: those whose sides are parallel to the picture's, and those at
 // any angle, with more exact centres.
 #[derive(Drop)]
-pub(crate) struct Found {
+pub(crate) struct Finders {
     pub(crate) upright: Vec<Finder>,
     pub(crate) turned: Vec<Finder>,
 }
@@ -72,11 +72,11 @@ pub(crate) fn column_of(pixels: &Pixels, x: usize) -> Line
 /// Finds finder patterns, in the order of their rows, at most 1,024, and 48 at any angle.
 ///
 /// Errors: only `AllocError`, if memory runs out.
-pub(crate) fn finders(alloc: Global, pixels: &Pixels) -> Result<Found, AllocError>
+pub(crate) fn finders(alloc: Global, pixels: &Pixels) -> Result<Finders, AllocError>
     ensures { IfOk result (λ found. (length found.upright.items ≤ 1024)
         × (length found.turned.items ≤ 48)) }
 {
-    let mut found = Found {
+    let mut found = Finders {
         upright: Vec::new(alloc),
         turned: Vec::new(alloc),
     };
@@ -88,7 +88,7 @@ pub(crate) fn finders(alloc: Global, pixels: &Pixels) -> Result<Found, AllocErro
 }
 
 // Appends the finder patterns that cross row `y`, except known ones.
-fn push_finders(found: &mut Found, pixels: &Pixels, y: usize) -> Result<(), AllocError>
+fn push_finders(found: &mut Finders, pixels: &Pixels, y: usize) -> Result<(), AllocError>
     requires row { (y < pixels.now.down) × (y ≤ 65535) }
     requires upright { length found.old.upright.items ≤ 1024 }
     requires turned { length found.old.turned.items ≤ 48 }
@@ -110,7 +110,7 @@ fn push_finders(found: &mut Found, pixels: &Pixels, y: usize) -> Result<(), Allo
 // Appends a finder pattern to those whose modules are right, at most a quarter of them wrong; and
 // to those at any angle, whose diagonals have its runs. Neither if it is known or there are too
 // many: then nothing more is looked at, so that time is linear.
-fn push_both(found: &mut Found, pixels: &Pixels, finder: Option<Finder>) -> Result<(), AllocError>
+fn push_both(found: &mut Finders, pixels: &Pixels, finder: Option<Finder>) -> Result<(), AllocError>
     requires upright { length found.old.upright.items ≤ 1024 }
     requires turned { length found.old.turned.items ≤ 48 }
     ensures upright { OnOk result (length found.new.upright.items ≤ 1024) }

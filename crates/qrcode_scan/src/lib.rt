@@ -27,7 +27,7 @@ pub use files::pixels_of;
 pub use grids::Grid;
 pub use pixels::{Pixels, Unscanned};
 pub use samples::sampled_at;
-pub use scanning::{Scan, Unread};
+pub use scanning::{Scan, ScanError};
 pub use several::behind_picture;
 pub use shades::pixels_of_colours;
 pub use squares::{Square, square_of};

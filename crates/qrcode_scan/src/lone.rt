@@ -4,7 +4,7 @@
 ghost use Rattle.std.specs.Prelude.{◌≡◌, ◌*◌, ◌≤◌, length, IfOk, IfSome};
 ghost use Rattle.qrcode_scan.specs.Grids.{IsInside};
 
-use crate::codes::Place;
+use crate::codes::PixelBounds;
 use crate::finders::{row_of, run_end, run_start};
 use crate::grids::Grid;
 use crate::pixels::{GREATEST_SIDE, Pixels};
@@ -33,12 +33,12 @@ pub(crate) fn lone_grid(alloc: Global, pixels: &Pixels) -> Result<Option<Grid>, 
 }
 
 // Returns the smallest rectangle with all dark pixels.
-fn extent_of(pixels: &Pixels) -> Place
+fn extent_of(pixels: &Pixels) -> PixelBounds
     ensures first { (result.left ≤ 65535) × (result.top ≤ 65535) }
     ensures last { (result.right ≤ pixels.now.across) × (result.bottom ≤ pixels.now.down) }
     ensures at_most { result.right ≤ 65535 }
 {
-    let mut all = Place {
+    let mut all = PixelBounds {
         left: GREATEST_SIDE,
         top: GREATEST_SIDE,
         right: 0,
@@ -49,7 +49,7 @@ fn extent_of(pixels: &Pixels) -> Place
         let first = run_end(pixels, row, 0, false);
         if first < row.length {
             let end = run_start(pixels, row, row.length, false);
-            all = Place {
+            all = PixelBounds {
                 left: all.left.min(first),
                 top: all.top.min(y),
                 right: all.right.max(end),
@@ -64,7 +64,7 @@ fn extent_of(pixels: &Pixels) -> Place
 fn marks_of(
     alloc: Global,
     pixels: &Pixels,
-    all: Place,
+    all: PixelBounds,
     side: usize,
 ) -> Result<Vec<bool>, AllocError>
     requires corner { (all.left ≤ 65535) × (all.top ≤ 65535) }
@@ -79,7 +79,7 @@ fn marks_of(
 }
 
 /// Whether all dark pixels are in a place.
-pub(crate) fn has_all_dark(pixels: &Pixels, place: Place) -> bool {
+pub(crate) fn has_all_dark(pixels: &Pixels, place: PixelBounds) -> bool {
     for y in 0..pixels.sides().1 {
         let row = row_of(pixels, y);
         let first = run_end(pixels, row, 0, false);

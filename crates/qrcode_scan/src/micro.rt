@@ -10,7 +10,7 @@ use std::alloc::AllocError;
 // The modules along one side: where they start in pixels, how many pixels they take, and how many
 // there are.
 #[derive(Clone, Copy)]
-struct Span {
+struct ModuleSpan {
     start: usize,
     extent: usize,
     count: usize,
@@ -56,7 +56,7 @@ fn micro_grid(pixels: &Pixels, finder: Finder, is_right: bool, is_lower: bool) -
 
 // Measures the modules along an outer line of a finder pattern: its seven, and the timing pattern
 // before or after them. `centre` is twice its centre, `seven` its pixels.
-fn span_of(pixels: &Pixels, line: Line, centre: usize, seven: usize, is_before: bool) -> Span
+fn span_of(pixels: &Pixels, line: Line, centre: usize, seven: usize, is_before: bool) -> ModuleSpan
     requires { (centre ≤ 131070) × (seven ≤ 65535) × (line.length ≤ 65535) }
 {
     let near = if is_before {
@@ -66,7 +66,7 @@ fn span_of(pixels: &Pixels, line: Line, centre: usize, seven: usize, is_before: 
     };
     let place = (centre / 2).min(line.length);
     let (far, count) = timing_end(pixels, line, place, seven, is_before);
-    Span {
+    ModuleSpan {
         start: near.min(far),
         extent: near.abs_diff(far),
         count,

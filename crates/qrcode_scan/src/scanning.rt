@@ -4,7 +4,7 @@ ghost use Rattle.std.specs.Prelude.{◌≡◌, ◌++◌, true, false, None, IfOk
 ghost use Rattle.qrcode_gs1.specs.symbol.Characters.{undoubled};
 ghost use Rattle.qrcode_scan.specs.Squares.{inverted};
 ghost use Rattle.qrcode_reader.specs.Positions.{IsFirstPartsReading};
-ghost use Rattle.qrcode_scan.specs.declared.scanning.Unread.TheVariants.{OutOfMemory};
+ghost use Rattle.qrcode_scan.specs.declared.scanning.ScanError.TheVariants.{OutOfMemory};
 ghost use Rattle.qrcode_scan.specs.HandedOn.{is_fnc1, part_on, handed_on};
 ghost use Rattle.qrcode_scan.specs.Scans.{IsPictureOf, IsReadAs, IsSeenAs, IsShownBy, IsSquareOf, IsUnreadIn, IsUnseen, has_faults, is_png, is_jpeg, unread_as};
 
@@ -38,11 +38,11 @@ pub struct Scan {
 
 /// Why a picture does not decode.
 #[derive(Clone, Copy)]
-pub enum Unread {
+pub enum ScanError {
     /// The bytes show no pixels.
     Unscanned(Unscanned),
     /// It is a PNG file that cannot be read.
-    Png(qrcode_png::Unread),
+    Png(qrcode_png::PngError),
     /// It is a JPEG file.
     Jpeg,
     /// There is no square of modules.
@@ -54,27 +54,27 @@ pub enum Unread {
     OutOfMemory,
 }
 
-impl From<AllocError> for Unread {
+impl From<AllocError> for ScanError {
     ghost from_gives = { λ _ e. e ≡ OutOfMemory };
 
-    fn from(_error: AllocError) -> Unread {
-        Unread::OutOfMemory
+    fn from(_error: AllocError) -> ScanError {
+        ScanError::OutOfMemory
     }
 }
 
-impl fmt::Display for Unread {
+impl fmt::Display for ScanError {
     fn fmt<W: fmt::Write>(&self, f: &mut fmt::Formatter<W>) -> fmt::Result {
         match self {
-            Unread::Unscanned(cause) => f.write_str(cause_text(*cause)),
-            Unread::Png(cause) => write!(f, "{cause}"),
-            Unread::Jpeg => f.write_str("it is a JPEG file; convert it to PNG"),
-            Unread::NoSquare | Unread::NoSymbol(_, qrcode_reader::Unread::NoSuchSide) => {
+            ScanError::Unscanned(cause) => f.write_str(cause_text(*cause)),
+            ScanError::Png(cause) => write!(f, "{cause}"),
+            ScanError::Jpeg => f.write_str("it is a JPEG file; convert it to PNG"),
+            ScanError::NoSquare | ScanError::NoSymbol(_, qrcode_reader::Unread::NoSuchSide) => {
                 f.write_str(NO_CODE)
             }
-            Unread::NoSymbol(count, error) => {
+            ScanError::NoSymbol(count, error) => {
                 write!(f, "{count} by {count} modules do not decode: {error}")
             }
-            Unread::OutOfMemory => f.write_str("out of memory"),
+            ScanError::OutOfMemory => f.write_str("out of memory"),
         }
     }
 }
@@ -122,7 +122,7 @@ pub(crate) struct Seen {
 }
 
 // Reads the pixels of a picture.
-pub(crate) fn seen_in(alloc: Global, bytes: &[u8]) -> Result<Seen, Unread>
+pub(crate) fn seen_in(alloc: Global, bytes: &[u8]) -> Result<Seen, ScanError>
     ensures value { IfOk result (λ seen. IsSeenAs bytes.now seen.pixels seen.is_inverted) }
     ensures more { IfOk result (λ seen. seen.has_faults ≡ has_faults bytes.now) }
     ensures causes { IfErr result (IsUnseen bytes.now) }
@@ -143,7 +143,7 @@ pub(crate) fn seen_in(alloc: Global, bytes: &[u8]) -> Result<Seen, Unread>
 
 // Reads the pixels of a picture in any format; also says whether a PNG file has faults.
 #[tactic(auto, using(crate::proofs::Seen::png_picture, crate::proofs::Seen::other_picture))]
-fn pixels_in(alloc: Global, bytes: &[u8]) -> Result<(Pixels, bool), Unread>
+fn pixels_in(alloc: Global, bytes: &[u8]) -> Result<(Pixels, bool), ScanError>
     ensures value { IfOk result (λ found. IsPictureOf bytes.now found.0) }
     ensures more { IfOk result (λ found. found.1 ≡ has_faults bytes.now) }
     ensures causes { IfErr result (IsUnseen bytes.now) }
@@ -152,17 +152,17 @@ fn pixels_in(alloc: Global, bytes: &[u8]) -> Result<(Pixels, bool), Unread>
         return png_pixels(alloc, bytes);
     }
     if is_jpeg(bytes) {
-        return Err(Unread::Jpeg);
+        return Err(ScanError::Jpeg);
     }
     match pixels_of(alloc, bytes) {
         Ok(pixels) => Ok((pixels, false)),
-        Err(cause) => Err(Unread::Unscanned(cause)),
+        Err(cause) => Err(ScanError::Unscanned(cause)),
     }
 }
 
 // Reads the pixels of a PNG file; also says whether it has more.
 #[tactic(auto, using(crate::proofs::Seen::shown_by, crate::proofs::Seen::large_image))]
-fn png_pixels(alloc: Global, bytes: &[u8]) -> Result<(Pixels, bool), Unread>
+fn png_pixels(alloc: Global, bytes: &[u8]) -> Result<(Pixels, bool), ScanError>
     requires png { is_png bytes.now ≡ true }
     ensures value { IfOk result (λ found. IsShownBy bytes.now found.0) }
     ensures more { IfOk result (λ found. found.1 ≡ has_faults bytes.now) }
@@ -170,20 +170,24 @@ fn png_pixels(alloc: Global, bytes: &[u8]) -> Result<(Pixels, bool), Unread>
 {
     let picture = match qrcode_png::read(alloc, bytes) {
         Ok(picture) => picture,
-        Err(qrcode_png::Unread::OutOfMemory) => return Err(Unread::OutOfMemory),
-        Err(cause) => return Err(Unread::Png(cause)),
+        Err(qrcode_png::PngError::OutOfMemory) => return Err(ScanError::OutOfMemory),
+        Err(cause) => return Err(ScanError::Png(cause)),
     };
     let (across, down) = picture.sides();
     let colours = picture.pixels(alloc)?;
     match pixels_of_colours(alloc, across as usize, down as usize, &colours) {
         Ok(pixels) => Ok((pixels, picture.has_faults())),
-        Err(cause) => Err(Unread::Unscanned(cause)),
+        Err(cause) => Err(ScanError::Unscanned(cause)),
     }
 }
 
 // Decodes the square in a plain margin.
 #[tactic(auto, using(crate::proofs::WhyUnread::unread_square))]
-pub(crate) fn read_clean(alloc: Global, pixels: &Pixels, is_inverted: bool) -> Result<Scan, Unread>
+pub(crate) fn read_clean(
+    alloc: Global,
+    pixels: &Pixels,
+    is_inverted: bool,
+) -> Result<Scan, ScanError>
     ensures square { IfOk result (λ scan. IsSquareOf scan pixels.now) }
     ensures clean { IfOk result (λ scan. scan.grid ≡ None) }
     ensures inverted { IfOk result (λ scan. scan.is_inverted ≡ is_inverted) }
@@ -191,7 +195,7 @@ pub(crate) fn read_clean(alloc: Global, pixels: &Pixels, is_inverted: bool) -> R
     ensures causes { IfErr result (IsUnreadIn pixels.now) }
 {
     let Some(square) = square_of(alloc, pixels)? else {
-        return Err(Unread::NoSquare);
+        return Err(ScanError::NoSquare);
     };
     let any = match read_any_parts(alloc, &square.modules) {
         Ok(any) => any,
@@ -201,12 +205,12 @@ pub(crate) fn read_clean(alloc: Global, pixels: &Pixels, is_inverted: bool) -> R
 }
 
 // Says why a square with `count` modules a side does not decode.
-fn no_symbol(count: usize, error: qrcode_reader::Unread) -> Unread
+fn no_symbol(count: usize, error: qrcode_reader::Unread) -> ScanError
     ensures { result ≡ unread_as count error }
 {
     match error {
-        qrcode_reader::Unread::OutOfMemory => Unread::OutOfMemory,
-        error => Unread::NoSymbol(count, error),
+        qrcode_reader::Unread::OutOfMemory => ScanError::OutOfMemory,
+        error => ScanError::NoSymbol(count, error),
     }
 }
 

@@ -9,7 +9,7 @@ use Rattle.qrcode_types.specs.Colors.{color_of}
 use Rattle.qrcode_render.specs.Layout.{Layout}
 use Rattle.qrcode_sheets.specs.Layers.{is_painted, layer, module_bytes, module_shade, pixel_in, pixel_shade, pixel_shades, AreLayers, IsLayer}
 use Rattle.qrcode_sheets.specs.Sheets.{Sheet, light_shade, shade_bytes}
-use Rattle.qrcode_formats.specs.declared.Format.{Format}
+use Rattle.qrcode_sheets.specs.declared.formats.Format.{Format}
 use Rattle.qrcode_sheets.specs.declared.layers.PartInk.{PartInk}
 
 -- one more value

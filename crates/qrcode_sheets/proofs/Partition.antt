@@ -11,9 +11,9 @@ use Rattle.qrcode_layout.specs.Figures.{has, figures, micro_figures, normal_figu
 use Rattle.qrcode_layout.specs.Patterns.{format_index, is_functional_place}
 use Rattle.qrcode_layout.proofs.FigurePlaces.{any_has, pattern_some}
 use Rattle.qrcode_sheets.specs.Parts.{figure_part, part_of, part_over}
-use Rattle.qrcode_sheets.specs.declared.parts.Part.{Part}
-use Rattle.qrcode_sheets.specs.declared.parts.Part.TheVariants as finder
-use Rattle.qrcode_sheets.specs.declared.parts.Part.TheVariants.{FormatWord, Data}
+use Rattle.qrcode_sheets.specs.declared.parts.CodePart.{CodePart}
+use Rattle.qrcode_sheets.specs.declared.parts.CodePart.TheVariants as finder
+use Rattle.qrcode_sheets.specs.declared.parts.CodePart.TheVariants.{FormatWord, Data}
 
 pub format_part : (v : Version) (x y : ℕ) → is_some (format_index v x y) ≡ true → FormatWord ≡ part_of v x y
 unfolding part_of
@@ -53,7 +53,7 @@ figure_is f WordAcross e = rw e (λ h. cc)
 figure_is f WordDown e = rw e (λ h. cc)
 
 -- a place is data if and only if no figure has it
-over_is : (x y : ℕ) (fs : List Figure) (below : Part) (b : Bool) → (below ≡ Data ↔ b ≡ false) → (fold (part_over x y) below fs ≡ Data) ↔ ((any_has x y fs || b) ≡ false)
+over_is : (x y : ℕ) (fs : List Figure) (below : CodePart) (b : Bool) → (below ≡ Data ↔ b ≡ false) → (fold (part_over x y) below fs ≡ Data) ↔ ((any_has x y fs || b) ≡ false)
 over_is x y [] below b h = h
 over_is x y (f ∷ fs) below b h = subst (λ (t : Bool). (fold (part_over x y) (part_over x y below f) fs ≡ Data) ↔ (t ≡ false)) (turned (any_has x y fs) (has f x y) b) (over_is x y fs (part_over x y below f) (has f x y || b) (go (has f x y))) where
   go : (t : Bool) → (cond t (figure_part f) below ≡ Data) ↔ ((t || b) ≡ false)

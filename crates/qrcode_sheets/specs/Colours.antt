@@ -79,8 +79,8 @@ abbrev pub number_among : List (List ℕ × ℕ) → List ℕ → Option ℕ
 number_among [] text = None
 number_among (row ∷ rows) text = if is_name row.0 text then Some row.1 else number_among rows text
 
-abbrev pub row_of : (Bor (List ℕ) × ℕ) → (List ℕ × ℕ)  -- a row of the code's table
-row_of row = (row.0.now, row.1)
+abbrev pub colour_row : (Bor (List ℕ) × ℕ) → (List ℕ × ℕ)  -- a row of the code's table
+colour_row row = (row.0.now, row.1)
 
 abbrev pub opaque : ℕ → Colour  -- the opaque colour of a number 0xrrggbb
 opaque n = record { red = n / 65536 % 256; green = n / 256 % 256; blue = n % 256; opacity = 255 }

@@ -1,113 +1,168 @@
--- What each output format draws for a sheet.
-use Rattle.std.specs.Prelude.{◌≡◌, ℕ, ◌==◌, ◌&&◌, ◌||◌, not, IsTrue, Bool, Some, true, false, List, [], ◌∷◌, ◌++◌, codes, encode_utf8, length, max, unwrap_or, if◌then◌else◌}
+-- The output formats, and what is known of each.
+use Rattle.std.specs.Prelude.{ℕ, ◌==◌, Bool, true, false, List, [], ◌∷◌, Option, Some, None, codes, if◌then◌else◌}
 use Rattle.std.specs.Option.{option_map}
-use Rattle.qrcode_sheets.specs.Eps.{eps_file}
-use Rattle.qrcode_sheets.specs.Files.{pgm_file, pbm_file, ppm_file}
-use Rattle.qrcode_render.specs.Layout.{modules_across}
-use Rattle.qrcode_sheets.specs.Paths.{xml_head, IsPathIn}
-use Rattle.qrcode_sheets.specs.Pdf.{IsPdfIn}
-use Rattle.qrcode_render.specs.Picture.{picture}
-use Rattle.qrcode_sheets.specs.Printers.{escpos_file, tspl_file_at, xbm_file}
-use Rattle.qrcode_render.specs.Texts.{text_of, dense_text, raw_bytes}
-use Rattle.qrcode_render.specs.Pic.{pic_text}
-use Rattle.qrcode_render.specs.Svg.{svg_text}
-use Rattle.qrcode_sheets.specs.Zpl.{IsZplOf}
-use Rattle.qrcode_png.specs.Shown.{IsFileOf}
-use Rattle.qrcode_png.specs.Image.{image_of}
-use Rattle.qrcode_sheets.specs.Layers.{AreOver, painted}
-use Rattle.qrcode_sheets.specs.Sheets.{Overlay, Nothing, Shapes, Pixels, Sheet, dark_of, light_of, eps_ink, per_metre, png_ink, rgb}
-use Rattle.qrcode_sheets.specs.Terminal.{coloured_text}
-use Rattle.qrcode_formats.specs.Formats.{row}
-use Rattle.qrcode_formats.specs.declared.Colours.{Colours}
-use Rattle.qrcode_formats.specs.declared.Colours.TheVariants.{Fixed}
-use Rattle.qrcode_formats.specs.declared.Format.{Format}
-use Rattle.qrcode_formats.specs.declared.Format.TheVariants.{HalfBlocks, LightHalfBlocks, Terminal, Chars, Png, Svg, SvgPath, Eps, Pic, Pbm, Pgm, Grey, Pdf, Zpl, Tspl, EscPos, Xbm, Ppm, Ascii}
-use Rattle.qrcode_formats.specs.declared.Middle.{Middle}
-use Rattle.qrcode_formats.specs.declared.Middle.TheVariants as middle
-use Rattle.qrcode_sheets.specs.declared.layers.PartInk.{PartInk}
-use Rattle.qrcode_sheets.specs.declared.render.DrawError.{DrawError}
-use Rattle.qrcode_sheets.specs.declared.render.DrawError.TheVariants.{NoParts, NoOverlay, OutOfMemory}
+use Rattle.std.specs.Str.{str_eq_ignore_ascii_case}
+use Rattle.qrcode_sheets.specs.declared.formats.Colours.{Colours}
+use Rattle.qrcode_sheets.specs.declared.formats.Colours.TheVariants as colours
+use Rattle.qrcode_sheets.specs.declared.formats.Density.{Density}
+use Rattle.qrcode_sheets.specs.declared.formats.Density.TheVariants as density
+use Rattle.qrcode_sheets.specs.declared.formats.Format.{Format}
+use Rattle.qrcode_sheets.specs.declared.formats.Format.TheVariants.{HalfBlocks, LightHalfBlocks, Terminal, Chars, Png, Svg, SvgPath, Eps, Pic, Pbm, Pgm, Grey, Pdf, Zpl, Tspl, EscPos, Xbm, Ppm, Ascii}
+use Rattle.qrcode_sheets.specs.declared.formats.LogoForm.{LogoForm}
+use Rattle.qrcode_sheets.specs.declared.formats.LogoForm.TheVariants as middle
+use Rattle.qrcode_sheets.specs.declared.formats.FormatRow as code
 
-abbrev pub ended : Sheet → List ℕ → List ℕ  -- text, with a newline at the end if the sheet asks for one
-ended t lines = if t.ends_lines then lines ++ codes "\n" else lines
+-- what is known of a format; the fields are those of the code
+pub record FormatRow : Type 0 where
+  pub format : Format
+  pub name : Option (List ℕ)
+  pub ending : Option (List ℕ)
+  pub number : Option ℕ
+  pub is_text : Bool
+  pub is_series : Bool
+  pub pixels : ℕ
+  pub least : ℕ
+  pub most : ℕ
+  pub is_whole : Bool
+  pub density : Density
+  pub is_exact : Bool
+  pub colours : Colours
+  pub parts : Colours
+  pub middle : LogoForm
+  pub has_place : Bool
 
--- half blocks; `dark` and `light` say whether they are drawn for dark and for light pixels
-abbrev pub half_block_text : Sheet → Bool → Bool → List ℕ
-half_block_text t dark light = dense_text (dark_of t dark light) (light_of t dark light) (picture t.at t.modules)
+abbrev pub lines : Format → FormatRow  -- lines of text: a character, or half of one, for each pixel
+lines f = record {
+  format = f;
+  name = None;
+  ending = None;
+  number = None;
+  is_text = true;
+  is_series = true;
+  pixels = 1;
+  least = 0;
+  most = 4096;
+  is_whole = false;
+  density = density.Nothing;
+  is_exact = false;
+  colours = colours.Fixed;
+  parts = colours.Fixed;
+  middle = middle.Light;
+  has_place = false;
+}
 
--- lines with these characters for dark and light pixels
-abbrev pub char_text : Sheet → List ℕ → List ℕ → List ℕ
-char_text t dark light = text_of (dark_of t dark light) (light_of t dark light) (picture t.at t.modules)
+abbrev pub pixels : Format → FormatRow  -- black and white pixels, in a binary file
+pixels f = record (lines f) { is_text = false; is_series = false; pixels = 8; most = 0xffffffff; is_whole = true; density = density.Sizes }
 
-abbrev pub eps_text : Sheet → List ℕ → List ℕ  -- an EPS file with PostScript over the modules
-eps_text t over =
-    eps_file t.dots t.at t.modules (dark_of t (eps_ink t.dark) (eps_ink t.light)) (light_of t (eps_ink t.dark) (eps_ink t.light)) over
+abbrev pub shapes : Format → FormatRow  -- shapes in a text file
+shapes f = record (pixels f) {
+  is_text = true;
+  is_whole = false;
+  density = density.Unit;
+  is_exact = true;
+  colours = colours.Opaque;
+  parts = colours.Opaque;
+  middle = middle.Operators;
+}
 
--- bytes are a file with shapes, and `over` over the modules: EPS; PDF with a title, and 72 pixels per inch if none are given; or SVG with one path, and
--- the size and title of the frame. A module is the unit of PDF's page and of SVG's viewBox
-abbrev pub IsShapes : Format → Sheet → List ℕ → List ℕ → Type 0
-IsShapes Eps t over bytes = bytes ≡ eps_text t over
-IsShapes Pdf t over bytes =
-    IsPdfIn (modules_across t.at) (modules_across t.at) (max (unwrap_or t.dots 72) 1) (dark_of t (rgb t.dark) (rgb t.light)) (light_of t (rgb t.dark) (rgb t.light)) (picture t.at t.modules) over t.frame.title bytes
-IsShapes f t over bytes =
-    IsPathIn (modules_across t.at) (modules_across t.at) xml_head t.frame (dark_of t t.dark.name t.light.name) (light_of t t.dark.name t.light.name) (picture t.at t.modules) over bytes
+abbrev pub row : Format → FormatRow  -- what is known of each format
+row HalfBlocks = record (lines HalfBlocks) { name = Some (codes "half-blocks"); ending = Some (codes "txt"); number = Some 0 }
+row LightHalfBlocks = record (lines LightHalfBlocks) { number = Some 1 }
+row Terminal = record (lines Terminal) { name = Some (codes "terminal") }
+row Chars = record (lines Chars) { name = Some (codes "text") }
+row Png = record (pixels Png) {
+  name = Some (codes "png");
+  ending = Some (codes "png");
+  number = Some 5;
+  least = 1;
+  most = 65535;
+  is_whole = false;
+  density = density.Stored;
+  colours = colours.Any;
+  parts = colours.Any;
+  middle = middle.Pixels;
+}
+row Svg = record (pixels Svg) { number = Some 2; is_text = true; is_whole = false; density = density.Nothing; colours = colours.Any }
+row SvgPath = record (shapes SvgPath) {
+  name = Some (codes "svg");
+  ending = Some (codes "svg");
+  number = Some 8;
+  density = density.Nothing;
+  colours = colours.Any;
+  middle = middle.Element;
+}
+row Eps = record (shapes Eps) { name = Some (codes "eps"); ending = Some (codes "eps"); number = Some 6 }
+row Pic = record (lines Pic) { name = Some (codes "pic"); ending = Some (codes "pic"); number = Some 3; is_series = false; most = 0xffffffff }
+row Pbm = record (pixels Pbm) { name = Some (codes "pbm"); ending = Some (codes "pbm"); number = Some 7 }
+row Pgm = record (pixels Pgm) { name = Some (codes "pgm"); ending = Some (codes "pgm"); number = Some 9 }
+row Grey = record (pixels Grey) { number = Some 4 }
+row Pdf = record (shapes Pdf) { name = Some (codes "pdf"); ending = Some (codes "pdf"); number = Some 10; is_text = false }
+row Zpl = record (pixels Zpl) {
+  name = Some (codes "zpl");
+  ending = Some (codes "zpl");
+  number = Some 11;
+  is_text = true;
+  is_series = true;
+  is_whole = false;
+  has_place = true;
+}
+row Tspl = record (pixels Tspl) { name = Some (codes "tspl"); ending = Some (codes "tspl"); number = Some 12; is_series = true; has_place = true }
+row EscPos = record (pixels EscPos) { name = Some (codes "escpos"); ending = Some (codes "escpos"); number = Some 13; is_series = true; most = 65535 }
+row Xbm = record (pixels Xbm) { name = Some (codes "xbm"); ending = Some (codes "xbm"); number = Some 14; is_text = true }
+row Ppm = record (pixels Ppm) { name = Some (codes "ppm"); ending = Some (codes "ppm"); number = Some 15; colours = colours.Opaque }
+row Ascii = record (lines Ascii) { name = Some (codes "ascii"); number = Some 16 }
 
--- likewise, with the colours of parts and what lies over all modules
-abbrev pub IsOver : Format → Sheet → List ℕ → Type 0
-IsOver f t bytes = (over : List ℕ) × (AreOver f t over × IsShapes f t over bytes)
+-- the formats, in the order of the program's help
+unfoldable pub formats : List FormatRow
+formats =
+    row HalfBlocks ∷ row LightHalfBlocks ∷ row Terminal ∷ row Chars ∷ row Png ∷ row Svg ∷ row SvgPath ∷ row Eps ∷ row Pic ∷ row Pbm ∷
+    row Pgm ∷ row Grey ∷ row Pdf ∷ row Zpl ∷ row Tspl ∷ row EscPos ∷ row Xbm ∷ row Ppm ∷ row Ascii ∷ []
 
-abbrev pub is_picture : Overlay → Bool
-is_picture (Pixels window inset) = true
-is_picture over = false
+abbrev pub format_row : code.FormatRow → FormatRow  -- a row of the code's table
+format_row r = record {
+  format = r.format;
+  name = option_map (λ text. text.now) r.name;
+  ending = option_map (λ text. text.now) r.ending;
+  number = r.number;
+  is_text = r.is_text;
+  is_series = r.is_series;
+  pixels = r.pixels;
+  least = r.least;
+  most = r.most;
+  is_whole = r.is_whole;
+  density = r.density;
+  is_exact = r.is_exact;
+  colours = r.colours;
+  parts = r.parts;
+  middle = r.middle;
+  has_place = r.has_place;
+}
 
-abbrev pub has_layers : Sheet → Bool  -- parts have their own colours, or a picture lies over the modules
-has_layers t = not (length t.parts == 0) || is_picture t.over
+abbrev pub is_known : Option (List ℕ) → List ℕ → Bool  -- name is the known one, ignoring case
+is_known None name = false
+is_known (Some known) name = str_eq_ignore_ascii_case known name
 
--- a PNG file in full colour, or in two colours
-abbrev pub IsPng : Bool → Sheet → List ℕ → Type 0
-IsPng true t bytes = image_of bytes ≡ Some (painted t)
-IsPng false t bytes = IsFileOf (picture t.at t.modules) (dark_of t (png_ink t.dark) (png_ink t.light)) (light_of t (png_ink t.dark) (png_ink t.light)) (option_map per_metre t.dpi) bytes
+abbrev pub is_number : Option ℕ → ℕ → Bool  -- n is the known number
+is_number None n = false
+is_number (Some known) n = known == n
 
--- bytes are the file of a sheet in the format
-abbrev pub IsDrawn : Format → Sheet → List ℕ → Type 0
-IsDrawn HalfBlocks t bytes = bytes ≡ ended t (half_block_text t true false)
-IsDrawn LightHalfBlocks t bytes = bytes ≡ ended t (half_block_text t false true)
-IsDrawn Terminal t bytes = bytes ≡ coloured_text (half_block_text t true false)
-IsDrawn Chars t bytes = bytes ≡ ended t (char_text t (encode_utf8 0x2588) (encode_utf8 32))
-IsDrawn Ascii t bytes = bytes ≡ ended t (char_text t (codes "##") (codes "  "))
-IsDrawn Png t bytes = IsPng (has_layers t) t bytes
-IsDrawn Svg t bytes = bytes ≡ svg_text t.at t.modules (dark_of t t.dark.name t.light.name) (light_of t t.dark.name t.light.name)
-IsDrawn SvgPath t bytes = IsOver SvgPath t bytes
-IsDrawn Eps t bytes = IsOver Eps t bytes
-IsDrawn Pdf t bytes = IsOver Pdf t bytes
-IsDrawn Pic t bytes = bytes ≡ pic_text t.at t.modules
-IsDrawn Pbm t bytes = bytes ≡ pbm_file (dark_of t true false) (light_of t true false) (picture t.at t.modules)
-IsDrawn Pgm t bytes = bytes ≡ pgm_file (dark_of t 0 255) (light_of t 0 255) (picture t.at t.modules)
-IsDrawn Grey t bytes = bytes ≡ raw_bytes (dark_of t (0 ∷ []) (255 ∷ [])) (light_of t (0 ∷ []) (255 ∷ [])) (picture t.at t.modules)
-IsDrawn Ppm t bytes = bytes ≡ ppm_file (dark_of t (rgb t.dark) (rgb t.light)) (light_of t (rgb t.dark) (rgb t.light)) (picture t.at t.modules)
-IsDrawn Zpl t bytes = IsZplOf t.place (dark_of t true false) (light_of t true false) (picture t.at t.modules) bytes
-IsDrawn Tspl t bytes = bytes ≡ tspl_file_at t.place (dark_of t true false) (light_of t true false) (picture t.at t.modules)
-IsDrawn EscPos t bytes = bytes ≡ escpos_file (dark_of t true false) (light_of t true false) (picture t.at t.modules)
-IsDrawn Xbm t bytes = bytes ≡ xbm_file (dark_of t true false) (light_of t true false) (picture t.at t.modules)
+abbrev pub named_among : List FormatRow → List ℕ → Option Format  -- the first format with this name
+named_among [] name = None
+named_among (row ∷ rows) name = if is_known row.name name then Some row.format else named_among rows name
 
-abbrev pub are_own : Colours → Bool  -- parts may have colours of their own
-are_own Fixed = false
-are_own colours = true
+abbrev pub ending_among : List FormatRow → List ℕ → Option Format  -- the first format with this file extension
+ending_among [] ending = None
+ending_among (row ∷ rows) ending = if is_known row.ending ending then Some row.format else ending_among rows ending
 
-abbrev pub takes_parts : Format → List PartInk → Bool  -- the format has colours of parts, or there are none
-takes_parts f inks = length inks == 0 || are_own (row f).parts
+abbrev pub numbered_among : List FormatRow → ℕ → Option Format  -- the first format with this number in C
+numbered_among [] n = None
+numbered_among (row ∷ rows) n = if is_number row.number n then Some row.format else numbered_among rows n
 
-abbrev pub lies_in : Middle → Overlay → Bool
-lies_in m Nothing = true
-lies_in middle.Element (Shapes text) = true
-lies_in middle.Operators (Shapes text) = true
-lies_in middle.Pixels (Pixels window inset) = true
-lies_in m over = false
+abbrev pub format_named : List ℕ → Option Format  -- the format with this name
+format_named name = named_among formats name
 
-abbrev pub takes_overlay : Format → Overlay → Bool  -- the format has what lies over the modules
-takes_overlay f over = lies_in (row f).middle over
+abbrev pub format_of_ending : List ℕ → Option Format  -- the format with this file extension
+format_of_ending ending = ending_among formats ending
 
-abbrev pub IsCause : Format → Sheet → DrawError → Type 0  -- why a sheet is not drawn
-IsCause f t NoParts = takes_parts f t.parts ≡ false
-IsCause f t NoOverlay = IsTrue (takes_parts f t.parts) × (takes_overlay f t.over ≡ false)
-IsCause f t OutOfMemory = IsTrue (takes_parts f t.parts && takes_overlay f t.over)
+abbrev pub format_numbered : ℕ → Option Format  -- the format with this number in the C library
+format_numbered n = numbered_among formats n

@@ -15,13 +15,13 @@ use Rattle.qrcode_png.specs.Image.{Image, Shade as Pixel, rgba}
 use Rattle.qrcode_sheets.specs.Parts.{part_of}
 use Rattle.qrcode_sheets.specs.Pasted.{shade_with}
 use Rattle.qrcode_sheets.specs.Sheets.{Overlay, Shapes, Sheet, Shade, dark_shade, light_shade, eps_ink, per_metre, rgb, shade_bytes, shade_of}
-use Rattle.qrcode_formats.specs.declared.Format.{Format}
-use Rattle.qrcode_formats.specs.declared.Format.TheVariants.{Eps, Pdf, SvgPath}
+use Rattle.qrcode_sheets.specs.declared.formats.Format.{Format}
+use Rattle.qrcode_sheets.specs.declared.formats.Format.TheVariants.{Eps, Pdf, SvgPath}
 use Rattle.qrcode_sheets.specs.declared.layers.PartInk.{PartInk}
-use Rattle.qrcode_sheets.specs.declared.parts.Part.{Part}
-use Rattle.qrcode_sheets.specs.declared.parts.Part.TheVariants.{Finder, Alignment, Timing, FormatWord, VersionWord, Data}
+use Rattle.qrcode_sheets.specs.declared.parts.CodePart.{CodePart}
+use Rattle.qrcode_sheets.specs.declared.parts.CodePart.TheVariants.{Finder, Alignment, Timing, FormatWord, VersionWord, Data}
 
-abbrev pub order : Part → ℕ  -- the number of a part, to compare parts
+abbrev pub order : CodePart → ℕ  -- the number of a part, to compare parts
 order Finder = 0
 order Alignment = 1
 order Timing = 2

@@ -1,4 +1,5 @@
 pub mod Colours
+pub mod Drawn
 pub mod Eps
 pub mod Files
 pub mod Formats

@@ -1,7 +1,7 @@
 //! Parses colours: CSS names and hexadecimal digits.
 
 ghost use Rattle.std.specs.Prelude.{◌≡◌, map, ◌<◌, IfSome};
-ghost use Rattle.qrcode_sheets.specs.Colours.{colour_named, is_clear, is_name, colour_of_digits, colour_of_parts, digit_of, names, number_among, opaque, pair, row_of, without_hash};
+ghost use Rattle.qrcode_sheets.specs.Colours.{colour_named, is_clear, is_name, colour_of_digits, colour_of_parts, digit_of, names, number_among, opaque, pair, colour_row, without_hash};
 
 /// A colour: red, green, blue and opacity, each from 0 to 255.
 #[derive(Clone, Copy, PartialEq, Eq)]
@@ -109,7 +109,7 @@ fn is_name(name: &str, text: &str) -> bool
 
 // The number of the first of `names` that equals the text, ignoring case.
 fn number_among(names: &[(&str, u32)], text: &str) -> Option<u32>
-    ensures { result ≡ number_among (map row_of names.now) text.now }
+    ensures { result ≡ number_among (map colour_row names.now) text.now }
 {
     for row in names {
         if is_name(row.0, text) {

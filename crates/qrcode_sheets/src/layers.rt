@@ -5,12 +5,12 @@ ghost use Rattle.qrcode_types.specs.declared.types.QrError.TheVariants.{OutOfMem
 ghost use Rattle.qrcode_sheets.specs.Layers.{is_painted, layer, units, AreOver, IsLayer};
 ghost use Rattle.qrcode_sheets.specs.Sheets.{sheet_of};
 
-use crate::parts::{Part, part_of};
+use crate::formats::Format;
+use crate::parts::{CodePart, part_of};
 use crate::render::{eps_ink, renderer_of, rgb};
 use crate::sheet::{Ink, Overlay, Sheet};
 use crate::svg_path::PathElement;
 use crate::{eps, pdf};
-use qrcode_formats::Format;
 use qrcode_layout::figures::color_of;
 use qrcode_types::types::{Color, QrResult};
 use qrcode_types::versions::side;
@@ -19,7 +19,7 @@ use std::alloc::{AllocError, Global};
 /// A colour for the dark or the light modules of one part, in PNG, SVG, EPS and PDF.
 #[derive(Clone, Copy)]
 pub struct PartInk<'a> {
-    pub part: Part,
+    pub part: CodePart,
     /// Whether the dark or the light modules get the colour.
     pub tone: Color,
     pub ink: Ink<'a>,

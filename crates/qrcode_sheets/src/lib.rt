@@ -5,6 +5,7 @@
 pub mod colours;
 pub mod eps;
 pub mod escpos;
+pub mod formats;
 pub mod laws;
 mod layers;
 pub mod packed;
@@ -27,7 +28,7 @@ pub mod xbm;
 pub mod zpl;
 
 pub use layers::{PartInk, units};
-pub use parts::Part;
+pub use parts::CodePart;
 pub use pasting::{Inset, Window};
 pub use places::Place;
 pub use render::{DrawError, draw, takes_overlay, takes_parts};

@@ -5,7 +5,7 @@ ghost use Rattle.qrcode_types.specs.Versions.{is_micro, is_valid, side};
 ghost use Rattle.qrcode_layout.specs.Figures.{alignment_row, alignments, figures, version_figures};
 ghost use Rattle.qrcode_layout.specs.Patterns.{is_functional_place};
 ghost use Rattle.qrcode_sheets.specs.Parts.{figure_part, part_of, part_over};
-ghost use Rattle.qrcode_sheets.specs.declared.parts.Part.TheVariants.{Data as FreePlace};
+ghost use Rattle.qrcode_sheets.specs.declared.parts.CodePart.TheVariants.{Data as FreePlace};
 
 use qrcode_layout::centres::centres;
 use qrcode_layout::figures::{
@@ -17,7 +17,7 @@ use qrcode_types::versions::side;
 
 /// A part of a symbol.
 #[derive(Clone, Copy, PartialEq, Eq)]
-pub enum Part {
+pub enum CodePart {
     /// Finder patterns, and their separators.
     Finder,
     /// Alignment patterns, also where they cross a timing pattern.
@@ -33,7 +33,7 @@ pub enum Part {
 }
 
 /// Returns the part that the module in column `x` and row `y` belongs to.
-pub fn part_of(version: Version, x: usize, y: usize) -> Part
+pub fn part_of(version: Version, x: usize, y: usize) -> CodePart
     requires valid { IsTrue (is_valid version) }
     requires inside { x < side version }
     ensures value { result ≡ part_of version x y }
@@ -41,9 +41,9 @@ pub fn part_of(version: Version, x: usize, y: usize) -> Part
 {
     let width = side(version);
     if format_index(version, width, x, y).is_some() {
-        return Part::FormatWord;
+        return CodePart::FormatWord;
     }
-    let part = Part::Data;
+    let part = CodePart::Data;
     if version.is_micro() {
         return drawn_over(&micro_figures(width)[2..], x, y, part);
     }
@@ -53,7 +53,7 @@ pub fn part_of(version: Version, x: usize, y: usize) -> Part
 }
 
 // The part of a place once `figure` is drawn over `below`.
-fn part_over(figure: &Figure, x: usize, y: usize, below: Part) -> Part
+fn part_over(figure: &Figure, x: usize, y: usize, below: CodePart) -> CodePart
     ensures { result ≡ part_over x y below figure.now }
 {
     if figure.has(x, y) {
@@ -64,22 +64,22 @@ fn part_over(figure: &Figure, x: usize, y: usize, below: Part) -> Part
 }
 
 // The part that a figure belongs to.
-fn figure_part(figure: &Figure) -> Part
+fn figure_part(figure: &Figure) -> CodePart
     ensures { result ≡ figure_part figure.now }
 {
     match figure.coloring {
-        Coloring::Squares if figure.across == 7 => Part::Finder,
-        Coloring::Squares => Part::Alignment,
-        Coloring::Turns => Part::Timing,
-        Coloring::Light => Part::Finder,
-        Coloring::Dark => Part::FormatWord,
-        Coloring::WordAcross | Coloring::WordDown => Part::VersionWord,
+        Coloring::Squares if figure.across == 7 => CodePart::Finder,
+        Coloring::Squares => CodePart::Alignment,
+        Coloring::Turns => CodePart::Timing,
+        Coloring::Light => CodePart::Finder,
+        Coloring::Dark => CodePart::FormatWord,
+        Coloring::WordAcross | Coloring::WordDown => CodePart::VersionWord,
     }
 }
 
 // The part of a place once all these figures are drawn over `below`, in order.
 #[tactic(auto, using(std::proofs::lemmas::List::Sums::fold_more))]
-fn drawn_over(figures: &[Figure], x: usize, y: usize, below: Part) -> Part
+fn drawn_over(figures: &[Figure], x: usize, y: usize, below: CodePart) -> CodePart
     ensures { result ≡ fold (part_over x y) below figures.now }
 {
     let mut part = below;
@@ -90,7 +90,7 @@ fn drawn_over(figures: &[Figure], x: usize, y: usize, below: Part) -> Part
 }
 
 // Draws the copies of the version information over `below`; `width` is the side of a Normal symbol.
-fn words_over(width: usize, x: usize, y: usize, below: Part) -> Part
+fn words_over(width: usize, x: usize, y: usize, below: CodePart) -> CodePart
     requires { 21 ≤ width }
     ensures { result ≡ fold (part_over x y) below (version_figures width) }
 {
@@ -102,7 +102,7 @@ fn words_over(width: usize, x: usize, y: usize, below: Part) -> Part
 }
 
 // Draws the alignment patterns whose centres are in row `b` over `below`.
-fn alignment_row_over(version: Version, b: usize, x: usize, y: usize, below: Part) -> Part
+fn alignment_row_over(version: Version, b: usize, x: usize, y: usize, below: CodePart) -> CodePart
     requires { IsTrue (is_valid version) }
     ensures { result ≡ fold (part_over x y) below (alignment_row version b) }
 {
@@ -118,7 +118,7 @@ fn alignment_row_over(version: Version, b: usize, x: usize, y: usize, below: Par
 }
 
 // Draws the alignment patterns over `below`.
-fn alignments_over(version: Version, x: usize, y: usize, below: Part) -> Part
+fn alignments_over(version: Version, x: usize, y: usize, below: CodePart) -> CodePart
     requires { IsTrue (is_valid version) }
     ensures { result ≡ fold (part_over x y) below (alignments version) }
 {

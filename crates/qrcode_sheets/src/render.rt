@@ -5,10 +5,11 @@ ghost use Rattle.qrcode_types.specs.declared.types.QrError.TheVariants.{OutOfMem
 ghost use Rattle.qrcode_render.specs.Picture.{picture};
 ghost use Rattle.qrcode_sheets.specs.Printers.{packed_file};
 ghost use Rattle.qrcode_render.specs.Setting.{fits};
-ghost use Rattle.qrcode_sheets.specs.Formats.{IsCause, IsDrawn, IsPng, ended, half_block_text, has_layers, takes_overlay, takes_parts};
+ghost use Rattle.qrcode_sheets.specs.Drawn.{IsDrawCause, IsSheetFile, IsPng, ended, half_block_text, has_layers, takes_overlay, takes_parts};
 ghost use Rattle.qrcode_sheets.specs.Sheets.{dark_of, eps_ink, light_of, overlay_of, per_metre, png_ink, rgb, setting_in, setting_of, shade_of, sheet_of};
-ghost use Rattle.qrcode_formats.specs.declared.Format.TheVariants.{Eps, Pdf, Png, SvgPath, Tspl, Zpl};
+ghost use Rattle.qrcode_sheets.specs.declared.formats.Format.TheVariants.{Eps, Pdf, Png, SvgPath, Tspl, Zpl};
 
+use crate::formats::{Colours, Format, LogoForm};
 use crate::layers::{PartInk, over};
 use crate::packed::{Dot, Packing};
 use crate::pbm::Bit;
@@ -18,7 +19,6 @@ use crate::sheet::{Ink, Overlay, Sheet};
 use crate::svg_path::{Path, framed};
 use crate::terminal::coloured;
 use crate::{eps, escpos, pdf, pgm, ppm, tspl, xbm, zpl};
-use qrcode_formats::{Colours, Format, Middle};
 use qrcode_png::with_density;
 use qrcode_render::image::Luma;
 use qrcode_render::string::Str;
@@ -44,10 +44,10 @@ pub enum DrawError {
 /// a PNG or ESC/POS picture of more than 65,535 pixels a side, or a PNG file with colours of parts
 /// or a picture of more than `GREATEST_PAINTED`, or a PNG file without pixels.
 pub fn draw(alloc: Global, format: Format, sheet: &Sheet<'_, '_, '_>) -> Result<Vec<u8>, DrawError>
-    ensures drawing { IfOk result (λ file. IsDrawn format (sheet_of sheet.now) file.items) }
+    ensures drawing { IfOk result (λ file. IsSheetFile format (sheet_of sheet.now) file.items) }
     ensures whole { IfOk result (λ _. IsTrue (takes_parts format sheet.now.parts.now
         && takes_overlay format (overlay_of sheet.now.over))) }
-    ensures causes { IfErr result (IsCause format (sheet_of sheet.now)) }
+    ensures causes { IfErr result (IsDrawCause format (sheet_of sheet.now)) }
 {
     if !takes_parts(format, sheet.parts) {
         return Err(DrawError::NoParts);
@@ -71,15 +71,15 @@ pub fn takes_overlay(format: Format, over: Overlay<'_>) -> bool
 {
     match (format.row().middle, over) {
         (_, Overlay::Nothing)
-        | (Middle::Element | Middle::Operators, Overlay::Shapes(_))
-        | (Middle::Pixels, Overlay::Pixels(..)) => true,
+        | (LogoForm::Element | LogoForm::Operators, Overlay::Shapes(_))
+        | (LogoForm::Pixels, Overlay::Pixels(..)) => true,
         _ => false,
     }
 }
 
 // The file of a sheet, without what the format lacks.
 fn file_of(alloc: Global, format: Format, sheet: &Sheet<'_, '_, '_>) -> QrResult<Vec<u8>>
-    ensures drawing { IfOk result (λ file. IsDrawn format (sheet_of sheet.now) file.items) }
+    ensures drawing { IfOk result (λ file. IsSheetFile format (sheet_of sheet.now) file.items) }
     ensures memory { IsOkUnless result OutOfMemory }
 {
     let (dark, light) = (sheet.dark, sheet.light);
@@ -181,7 +181,7 @@ fn half_blocks(alloc: Global, sheet: &Sheet<'_, '_, '_>) -> QrResult<String>
 
 // A PNG file.
 fn png(alloc: Global, sheet: &Sheet<'_, '_, '_>) -> QrResult<Vec<u8>>
-    ensures shows { IfOk result (λ file. IsDrawn Png (sheet_of sheet.now) file.items) }
+    ensures shows { IfOk result (λ file. IsSheetFile Png (sheet_of sheet.now) file.items) }
     ensures memory { IsOkUnless result OutOfMemory }
 {
     if has_layers(sheet) {
@@ -211,7 +211,7 @@ fn two_colours(alloc: Global, sheet: &Sheet<'_, '_, '_>) -> QrResult<Vec<u8>>
 
 // An SVG file with one path, with the size and title of the sheet's frame.
 fn path(alloc: Global, sheet: &Sheet<'_, '_, '_>) -> QrResult<Vec<u8>>
-    ensures shows { IfOk result (λ file. IsDrawn SvgPath (sheet_of sheet.now) file.items) }
+    ensures shows { IfOk result (λ file. IsSheetFile SvgPath (sheet_of sheet.now) file.items) }
     ensures memory { IsOkUnless result OutOfMemory }
 {
     let over = over(alloc, Format::SvgPath, sheet)?;
@@ -221,7 +221,7 @@ fn path(alloc: Global, sheet: &Sheet<'_, '_, '_>) -> QrResult<Vec<u8>>
 
 // ZPL II, with the picture at the sheet's place on the label.
 fn zpl(alloc: Global, sheet: &Sheet<'_, '_, '_>) -> QrResult<Vec<u8>>
-    ensures shows { IfOk result (λ file. IsDrawn Zpl (sheet_of sheet.now) file.items) }
+    ensures shows { IfOk result (λ file. IsSheetFile Zpl (sheet_of sheet.now) file.items) }
     ensures memory { IsOkUnless result OutOfMemory }
 {
     let (dark, light) = (zpl::Dot::of(Bit::Black), zpl::Dot::of(Bit::White));
@@ -230,7 +230,7 @@ fn zpl(alloc: Global, sheet: &Sheet<'_, '_, '_>) -> QrResult<Vec<u8>>
 
 // TSPL, with the picture at the sheet's place on the label.
 fn tspl(alloc: Global, sheet: &Sheet<'_, '_, '_>) -> QrResult<Vec<u8>>
-    ensures value { IfOk result (λ file. IsDrawn Tspl (sheet_of sheet.now) file.items) }
+    ensures value { IfOk result (λ file. IsSheetFile Tspl (sheet_of sheet.now) file.items) }
     ensures memory { IsOkUnless result OutOfMemory }
 {
     let (dark, light) = (tspl::Dot::of(Bit::Black), tspl::Dot::of(Bit::White));
@@ -239,7 +239,7 @@ fn tspl(alloc: Global, sheet: &Sheet<'_, '_, '_>) -> QrResult<Vec<u8>>
 
 // An EPS file. Without pixels per inch, a pixel is a point.
 fn eps(alloc: Global, sheet: &Sheet<'_, '_, '_>) -> QrResult<Vec<u8>>
-    ensures shows { IfOk result (λ file. IsDrawn Eps (sheet_of sheet.now) file.items) }
+    ensures shows { IfOk result (λ file. IsSheetFile Eps (sheet_of sheet.now) file.items) }
     ensures memory { IsOkUnless result OutOfMemory }
 {
     let over = over(alloc, Format::Eps, sheet)?;
@@ -250,7 +250,7 @@ fn eps(alloc: Global, sheet: &Sheet<'_, '_, '_>) -> QrResult<Vec<u8>>
 // A PDF file with the title of the sheet's frame, unless it is empty. Without pixels per inch, a
 // pixel is a point.
 fn pdf_file(alloc: Global, sheet: &Sheet<'_, '_, '_>) -> QrResult<Vec<u8>>
-    ensures shows { IfOk result (λ file. IsDrawn Pdf (sheet_of sheet.now) file.items) }
+    ensures shows { IfOk result (λ file. IsSheetFile Pdf (sheet_of sheet.now) file.items) }
     ensures memory { IsOkUnless result OutOfMemory }
 {
     let over = over(alloc, Format::Pdf, sheet)?;

@@ -1,7 +1,7 @@
 //! Makes the pushes of a bit list.
 
 use crate::digest::Digest;
-use crate::words::{Asked, Given};
+use crate::words::{Argument, Call};
 use qrcode::bits::{Bits, DATA_LIMIT, ExtendedMode};
 use qrcode::optimize::Parser;
 use qrcode::types::{EcLevel, Mode, QrError, QrResult};
@@ -19,13 +19,13 @@ pub enum Note {
 }
 
 /// Returns the digest of the list of all pushes, and what a failed push did.
-pub fn run(alloc: Global, asked: &Asked<'_>) -> QrResult<(Digest, Note)> {
+pub fn run(alloc: Global, asked: &Call<'_>) -> QrResult<(Digest, Note)> {
     let (bits, note) = list_of(alloc, asked)?;
     Ok((digest_of(bits), note))
 }
 
 /// Makes all pushes on a list of the version that is asked for, each once more if memory runs out.
-pub fn list_of(alloc: Global, asked: &Asked<'_>) -> QrResult<(Bits, Note)> {
+pub fn list_of(alloc: Global, asked: &Call<'_>) -> QrResult<(Bits, Note)> {
     let version = asked.version();
     if !version.is_valid() {
         return Err(QrError::InvalidVersion);
@@ -36,7 +36,7 @@ pub fn list_of(alloc: Global, asked: &Asked<'_>) -> QrResult<(Bits, Note)> {
 }
 
 // Makes the pushes in order, and stops after one that was kept in part.
-fn push_all(bits: &mut Bits, given: &[Given<'_>], level: EcLevel) -> QrResult<Note> {
+fn push_all(bits: &mut Bits, given: &[Argument<'_>], level: EcLevel) -> QrResult<Note> {
     let mut note = Note::Whole;
     for each in given {
         match push_again(bits, each, level)? {
@@ -50,7 +50,7 @@ fn push_all(bits: &mut Bits, given: &[Given<'_>], level: EcLevel) -> QrResult<No
 
 // Makes a push, and makes it again if memory ran out. A push that fails for another reason is an
 // error only if the list is as long as before.
-fn push_again(bits: &mut Bits, given: &Given<'_>, level: EcLevel) -> QrResult<Note> {
+fn push_again(bits: &mut Bits, given: &Argument<'_>, level: EcLevel) -> QrResult<Note> {
     let length = bits.len();
     match push(bits, given, level) {
         Ok(()) => return Ok(Note::Whole),
@@ -63,7 +63,7 @@ fn push_again(bits: &mut Bits, given: &Given<'_>, level: EcLevel) -> QrResult<No
 }
 
 // Pushes data, a mode indicator, a header or the terminator, as `given.kind` names it.
-fn push(bits: &mut Bits, given: &Given<'_>, level: EcLevel) -> QrResult<()> {
+fn push(bits: &mut Bits, given: &Argument<'_>, level: EcLevel) -> QrResult<()> {
     match given.kind {
         "numeric" => bits.push_numeric_data(&given.bytes),
         "alphanumeric" => bits.push_alphanumeric_data(&given.bytes),

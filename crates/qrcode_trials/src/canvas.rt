@@ -5,7 +5,7 @@ ghost use Rattle.qrcode_types.specs.Versions.{has_level};
 ghost use Rattle.qrcode_layout.specs.Masks.{exists_in};
 
 use crate::digest::Digest;
-use crate::words::Asked;
+use crate::words::Call;
 use qrcode::canvas::{Canvas, MaskPattern};
 use qrcode::types::{Color, QrError, QrResult, Version};
 use qrcode_layout::masks::masks_of;
@@ -15,7 +15,7 @@ use std::alloc::Global;
 /// Makes the call that `asked.kind` names on a canvas of the version and level: for `new` an empty
 /// one, for `masked` patterns under the mask of the index that is asked for, else patterns with the
 /// data and error correction that are asked for, or fixed ones.
-pub fn run(alloc: Global, asked: &Asked<'_>) -> QrResult<Digest> {
+pub fn run(alloc: Global, asked: &Call<'_>) -> QrResult<Digest> {
     let (version, level) = (asked.version(), asked.level());
     if !version.is_valid() || !version.has_level(level) {
         return Err(QrError::InvalidVersion);

@@ -2,7 +2,7 @@
 
 use crate::bits::{digest_of, list_of};
 use crate::digest::{Digest, or_error};
-use crate::words::Asked;
+use crate::words::Call;
 use qrcode::QrCode;
 use qrcode::bits::encode_auto;
 use qrcode::types::{QrError, QrResult};
@@ -18,7 +18,7 @@ use qrcode_gs1::symbol::{for_application, gs1};
 use std::alloc::Global;
 
 /// Returns the digest of the symbol, symbols, bits or joined data that `asked.kind` names.
-pub fn run(alloc: Global, asked: &Asked<'_>) -> QrResult<Digest> {
+pub fn run(alloc: Global, asked: &Call<'_>) -> QrResult<Digest> {
     let (version, level) = (asked.version(), asked.level());
     match asked.kind {
         "several" => Ok(of_codes(&encode_several(alloc, asked.data(), version, level)?)),
@@ -38,7 +38,7 @@ pub fn run(alloc: Global, asked: &Asked<'_>) -> QrResult<Digest> {
 }
 
 // Returns the range of versions that the second and third data argument bound.
-fn versions(asked: &Asked<'_>) -> Versions {
+fn versions(asked: &Call<'_>) -> Versions {
     Versions {
         least: asked.number(1) as usize,
         greatest: asked.number(2) as usize,
@@ -46,7 +46,7 @@ fn versions(asked: &Asked<'_>) -> Versions {
 }
 
 // Makes one symbol.
-fn constructed(alloc: Global, asked: &Asked<'_>) -> QrResult<QrCode> {
+fn constructed(alloc: Global, asked: &Call<'_>) -> QrResult<QrCode> {
     let (data, text) = (asked.data(), asked.text());
     let (version, level) = (asked.version(), asked.level());
     match asked.kind {
@@ -64,7 +64,7 @@ fn constructed(alloc: Global, asked: &Asked<'_>) -> QrResult<QrCode> {
 }
 
 // Makes the symbol of all pushes, unless they leave room.
-fn with_bits(alloc: Global, asked: &Asked<'_>) -> QrResult<QrCode> {
+fn with_bits(alloc: Global, asked: &Call<'_>) -> QrResult<QrCode> {
     let (bits, _) = list_of(alloc, asked)?;
     let level = asked.level();
     if !bits.version().has_level(level) {
@@ -77,7 +77,7 @@ fn with_bits(alloc: Global, asked: &Asked<'_>) -> QrResult<QrCode> {
 }
 
 // Makes the GS1 symbol of two elements (91), both with the text that is asked for.
-fn of_elements(alloc: Global, asked: &Asked<'_>) -> QrResult<QrCode> {
+fn of_elements(alloc: Global, asked: &Call<'_>) -> QrResult<QrCode> {
     let element = Element {
         identifier: "91",
         value: asked.text(),

@@ -1,14 +1,14 @@
 //! Makes error correction codewords.
 
 use crate::digest::Digest;
-use crate::words::Asked;
+use crate::words::Call;
 use qrcode::ec;
 use qrcode::types::{EcLevel, QrError, QrResult, Version};
 use qrcode_types::tables::Blocks;
 use std::alloc::Global;
 
 /// Returns the digest of the error correction of one block, or of all codewords of a symbol.
-pub fn run(alloc: Global, asked: &Asked<'_>) -> QrResult<Digest> {
+pub fn run(alloc: Global, asked: &Call<'_>) -> QrResult<Digest> {
     match asked.kind {
         "block" => of_block(alloc, asked.data(), asked.number(1) as usize),
         _ => codewords(alloc, asked.data(), asked.version(), asked.level()),

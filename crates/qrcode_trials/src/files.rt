@@ -1,12 +1,12 @@
 //! Makes PNG files that the C library cannot make, and reads others.
 
 use crate::digest::{Digest, or_error};
-use crate::words::Asked;
+use crate::words::Call;
 use qrcode::render::Renderer;
 use qrcode::types::Color::{self as Module, Dark, Light};
 use qrcode::types::{QrError, QrResult};
 use qrcode_png::sums::crc;
-use qrcode_png::{Color, Unread, grey, read, with_density};
+use qrcode_png::{Color, PngError, grey, read, with_density};
 use std::alloc::Global;
 
 /// A square of three modules a side.
@@ -17,7 +17,7 @@ pub static THREE: [Module; 9] = [Dark, Light, Dark, Light, Light, Dark, Dark, Da
 ///
 /// The numbers of `grey`: width, height, and a step (3 marks every third pixel). Those of `dense`:
 /// width and height of a module in pixels, and pixels per metre.
-pub fn run(alloc: Global, asked: &Asked<'_>) -> QrResult<Digest> {
+pub fn run(alloc: Global, asked: &Call<'_>) -> QrResult<Digest> {
     match asked.kind {
         "grey" => of_file(&of_pixels(alloc, asked)?),
         "shown" => of_picture(alloc, asked.data()),
@@ -32,7 +32,7 @@ pub fn of_file(bytes: &[u8]) -> QrResult<Digest> {
 
 // Reads `file`, and returns the width of its picture and the CRC-32 of its RGBA bytes.
 fn of_picture(alloc: Global, file: &[u8]) -> QrResult<Digest> {
-    let picture = or_error(read(alloc, file), Unread::OutOfMemory)?;
+    let picture = or_error(read(alloc, file), PngError::OutOfMemory)?;
     let mut bytes = Vec::new(alloc);
     for pixel in &picture.pixels(alloc)? {
         bytes.extend_from_slice(pixel)?;
@@ -41,7 +41,7 @@ fn of_picture(alloc: Global, file: &[u8]) -> QrResult<Digest> {
 }
 
 // Makes a file of pixels: each `step`-th is marked.
-fn of_pixels(alloc: Global, asked: &Asked<'_>) -> QrResult<Vec<u8>> {
+fn of_pixels(alloc: Global, asked: &Call<'_>) -> QrResult<Vec<u8>> {
     let (Ok(across), Ok(down)) = (
         u16::try_from(asked.number(0)),
         u16::try_from(asked.number(1)),
@@ -64,7 +64,7 @@ fn of_pixels(alloc: Global, asked: &Asked<'_>) -> QrResult<Vec<u8>> {
 }
 
 // Makes the file of a square of modules without a quiet zone.
-fn of_modules(alloc: Global, asked: &Asked<'_>) -> QrResult<Vec<u8>> {
+fn of_modules(alloc: Global, asked: &Call<'_>) -> QrResult<Vec<u8>> {
     let mut renderer = Renderer::<Color>::new(&THREE, 3, 0);
     renderer.module_dimensions(asked.number(0), asked.number(1));
     let dots = asked.number(2);

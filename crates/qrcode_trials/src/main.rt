@@ -22,7 +22,7 @@ use std::alloc::Global;
 use std::io::Print;
 use std::process::ExitCode;
 use std::{env, io};
-use words::{Asked, Given};
+use words::{Argument, Call};
 
 fn main(rt: HostRuntime) -> ExitCode {
     match print_answer(&rt) {
@@ -58,9 +58,9 @@ fn answer(alloc: Global, arguments: env::Args) -> QrResult<(Digest, Note)> {
     let words: Vec<String> = arguments.collect(alloc)?;
     let mut given = Vec::new(alloc);
     for word in words.iter().skip(5) {
-        given.push(Given::read(alloc, word)?)?;
+        given.push(Argument::read(alloc, word)?)?;
     }
-    let asked = Asked {
+    let asked = Call {
         kind: word_at(&words, 2),
         version: word_at(&words, 3),
         level: word_at(&words, 4),
@@ -78,7 +78,7 @@ fn word_at(words: &[String], at: usize) -> &str {
 }
 
 // Makes the call. Any other name, as `alone`, only reads the data.
-fn made(alloc: Global, call: &str, asked: &Asked<'_>) -> QrResult<Digest> {
+fn made(alloc: Global, call: &str, asked: &Call<'_>) -> QrResult<Digest> {
     match call {
         "segments" => segments::run(alloc, asked),
         "correction" => correction::run(alloc, asked),

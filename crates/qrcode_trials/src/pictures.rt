@@ -6,7 +6,7 @@ use crate::digest::Digest;
 use crate::files::{THREE, of_file};
 use crate::symbols::of_digits;
 use crate::word::Word;
-use crate::words::{Asked, number};
+use crate::words::{Call, number};
 use qrcode::render::image::{ImageBuffer, Luma, LumaA, Rgb, Rgba};
 use qrcode::render::string::Str;
 use qrcode::render::unicode::Dense1x2;
@@ -18,7 +18,7 @@ use qrcode_sheets::{eps, escpos, pbm, pdf, pgm, ppm, tspl, xbm, zpl};
 use std::alloc::Global;
 
 /// Draws a picture in the format that `asked.kind` names, and returns its digest.
-pub fn run(alloc: Global, asked: &Asked<'_>) -> QrResult<Digest> {
+pub fn run(alloc: Global, asked: &Call<'_>) -> QrResult<Digest> {
     match asked.kind {
         "Luma" => pixels::<Luma>(alloc, asked),
         "LumaA" => pixels::<LumaA>(alloc, asked),
@@ -48,22 +48,22 @@ pub fn run(alloc: Global, asked: &Asked<'_>) -> QrResult<Digest> {
 }
 
 // Draws a picture that is a string.
-fn text<P: Pixel<Image = String>>(alloc: Global, asked: &Asked<'_>) -> QrResult<Digest> {
+fn text<P: Pixel<Image = String>>(alloc: Global, asked: &Call<'_>) -> QrResult<Digest> {
     Ok(Digest::of(picture::<P>(alloc, asked)?.as_bytes()))
 }
 
 // Draws a picture that is the bytes of a file.
-fn file<P: Pixel<Image = Vec<u8>>>(alloc: Global, asked: &Asked<'_>) -> QrResult<Digest> {
+fn file<P: Pixel<Image = Vec<u8>>>(alloc: Global, asked: &Call<'_>) -> QrResult<Digest> {
     of_file(&picture::<P>(alloc, asked)?)
 }
 
 // Draws a picture that is an image buffer.
-fn pixels<P: Pixel<Image = ImageBuffer<P>>>(alloc: Global, asked: &Asked<'_>) -> QrResult<Digest> {
+fn pixels<P: Pixel<Image = ImageBuffer<P>>>(alloc: Global, asked: &Call<'_>) -> QrResult<Digest> {
     Ok(Digest::of(&picture::<P>(alloc, asked)?.into_raw()))
 }
 
 // Draws a picture that is the bars of a label.
-fn bars(alloc: Global, asked: &Asked<'_>) -> QrResult<Digest> {
+fn bars(alloc: Global, asked: &Call<'_>) -> QrResult<Digest> {
     let mut digest = Digest::of::<u8>(&[]);
     for bar in &picture::<Dot>(alloc, asked)? {
         digest = digest.and(Digest::of(&[bar.left, bar.top, bar.width, bar.height]));
@@ -74,7 +74,7 @@ fn bars(alloc: Global, asked: &Asked<'_>) -> QrResult<Digest> {
 // Draws no module (`none`), a square of one (`dark`), two (`diagonal`) or three a side (`three`), a
 // wide symbol (`wide`), a chessboard (`board`), each call of the canvas (`calls`), a rectangle pixel
 // by pixel (`rect`), or the symbol of digits in the version that is asked for.
-fn picture<P: Pixel>(alloc: Global, asked: &Asked<'_>) -> QrResult<P::Image> {
+fn picture<P: Pixel>(alloc: Global, asked: &Call<'_>) -> QrResult<P::Image> {
     match asked.version {
         "none" => built(alloc, &Renderer::<P>::new(&[], 0, 0)),
         "dark" => cells::<P>(alloc, &DARK, 1, asked),
@@ -99,7 +99,7 @@ fn cells<P: Pixel>(
     alloc: Global,
     modules: &[Color],
     side: usize,
-    asked: &Asked<'_>,
+    asked: &Call<'_>,
 ) -> QrResult<P::Image>
     requires square { length modules.now ≡ side * side }
     requires at_most { side ≤ 3 }
@@ -149,7 +149,7 @@ fn board<P: Pixel>(alloc: Global) -> QrResult<P::Image> {
 }
 
 // Draws grey pixels by `to_image`.
-fn image(alloc: Global, asked: &Asked<'_>) -> QrResult<Digest> {
+fn image(alloc: Global, asked: &Call<'_>) -> QrResult<Digest> {
     let code = of_digits(alloc, asked.version())?;
     let renderer = code.render::<Luma>();
     if !renderer.fits() {

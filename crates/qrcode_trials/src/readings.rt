@@ -1,7 +1,7 @@
 //! Makes the calls of the reader that have no call of their own in C.
 
 use crate::digest::{Digest, or_error};
-use crate::words::Asked;
+use crate::words::Call;
 use qrcode::QrCode;
 use qrcode::types::{Color, EcLevel, QrError, QrResult};
 use qrcode_reader::spell::{Unspelled, pieces};
@@ -9,7 +9,7 @@ use qrcode_reader::{BitReading, Unread, read_any_parts, read_bits};
 use std::alloc::Global;
 
 /// Reads the symbol of the data in the version at level L, with its last module inverted.
-pub fn run(alloc: Global, asked: &Asked<'_>) -> QrResult<Digest> {
+pub fn run(alloc: Global, asked: &Call<'_>) -> QrResult<Digest> {
     let code = QrCode::with_version(alloc, asked.data(), asked.version(), EcLevel::L)?;
     let mut colors = code.into_colors();
     if let Some(last) = colors.last_mut() {

@@ -3,14 +3,14 @@
 ghost use Rattle.std.specs.Iterator.{IsFinite};
 
 use crate::digest::Digest;
-use crate::words::Asked;
+use crate::words::Call;
 use qrcode::bits::DATA_LIMIT;
 use qrcode::optimize::{Modes, Parser, Segment, least_segments, least_segments_in};
 use qrcode::types::{QrError, QrResult};
 use std::alloc::Global;
 
 /// Returns the digest of the segments of the data in the version that is asked for.
-pub fn run(alloc: Global, asked: &Asked<'_>) -> QrResult<Digest> {
+pub fn run(alloc: Global, asked: &Call<'_>) -> QrResult<Digest> {
     let (data, version) = (asked.data(), asked.version());
     if !version.is_valid() {
         return Err(QrError::InvalidVersion);

@@ -1,12 +1,12 @@
 //! Makes the calls of a symbol.
 
 use crate::digest::{Digest, or_error};
-use crate::words::Asked;
+use crate::words::Call;
 use qrcode::QrCode;
 use qrcode::types::{Color, EcLevel, QrError, QrResult, Version};
-use qrcode_area::areas::{Area, Rectangle};
-use qrcode_area::covered::with_area;
-use qrcode_area::excess::Excess;
+use qrcode_damage::areas::{Area, Rectangle};
+use qrcode_damage::covered::with_area;
+use qrcode_damage::excess::Excess;
 use std::alloc::Global;
 
 /// Makes the symbol of eight digits in `version` at level L, or of one digit in Micro 1.
@@ -19,7 +19,7 @@ pub fn of_digits(alloc: Global, version: Version) -> QrResult<QrCode> {
 }
 
 /// Makes the call that `asked.kind` names on the symbol of digits in the version.
-pub fn run(alloc: Global, asked: &Asked<'_>) -> QrResult<Digest> {
+pub fn run(alloc: Global, asked: &Call<'_>) -> QrResult<Digest> {
     let version = asked.version();
     let code = of_digits(alloc, version)?;
     match asked.kind {

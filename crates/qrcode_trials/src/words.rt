@@ -5,24 +5,24 @@ use std::alloc::Global;
 
 /// One data argument: its bytes, and the kind before its `=`.
 #[derive(Drop)]
-pub struct Given<'a> {
+pub struct Argument<'a> {
     pub kind: &'a str,
     pub bytes: Vec<u8>,
 }
 
 /// The arguments of a call: a kind, the names of a version and a level, and data.
 #[derive(Clone, Copy)]
-pub struct Asked<'a> {
+pub struct Call<'a> {
     pub kind: &'a str,
     pub version: &'a str,
     pub level: &'a str,
-    pub given: &'a [Given<'a>],
+    pub given: &'a [Argument<'a>],
 }
 
-impl Given<'_> {
+impl Argument<'_> {
     /// Reads an argument `KIND=TEXT` or `TEXT`. Each character is a byte, its code modulo 256;
     /// `TEXT*N` repeats TEXT N times.
-    pub fn read<'a>(alloc: Global, word: &'a str) -> QrResult<Given<'a>> {
+    pub fn read<'a>(alloc: Global, word: &'a str) -> QrResult<Argument<'a>> {
         let (kind, text) = word.split_once('=').unwrap_or(("", word));
         let (unit, count) = repeated(text);
         let mut bytes = Vec::with_capacity(alloc, unit.len().saturating_mul(count))?;
@@ -31,7 +31,7 @@ impl Given<'_> {
                 bytes.push((u32::from(character) % 256) as u8)?;
             }
         }
-        Ok(Given { kind, bytes })
+        Ok(Argument { kind, bytes })
     }
 
     /// Returns the data as text, or an empty text if it is not UTF-8.
@@ -60,7 +60,7 @@ pub fn number(word: &str) -> u32 {
     word.parse::<u32>().unwrap_or(0)
 }
 
-impl<'a> Asked<'a> {
+impl<'a> Call<'a> {
     /// Returns the version of a name such as `40` or `M4`, or an invalid version for other names.
     pub fn version(&self) -> Version {
         match self.version.strip_prefix('M') {

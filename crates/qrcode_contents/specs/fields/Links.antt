@@ -1,19 +1,19 @@
 -- Links with parameters: `?` before the first, `&` before the others, and in each a key, `=` and a value.
 use Rattle.std.specs.Prelude.{◌≡◌, ℕ, ◌==◌, not, Bool, true, false, List, [], ◌∷◌, ◌++◌, map, flat_map, filter, codes, if◌then◌else◌, refl}
 use Rattle.std.specs.List.{slice_split}
-use Rattle.qrcode_contents.specs.declared.fields.links.Part.{Part}
-use Rattle.qrcode_contents.specs.declared.fields.links.Part.TheVariants.{Path, Addresses, Value}
+use Rattle.qrcode_contents.specs.declared.fields.links.LinkPart.{LinkPart}
+use Rattle.qrcode_contents.specs.declared.fields.links.LinkPart.TheVariants.{Path, Addresses, Value}
 use Rattle.qrcode_contents.specs.fields.Characters.{before, after}
 use Rattle.qrcode_contents.specs.fields.Entries.{Entry, single, is_filled, value_of}
 use Rattle.qrcode_contents.specs.fields.Percents.{encoded_byte, decoded}
 
 -- a byte, percent-encoded: in a path `@` stays as it is, among addresses `,` too, and in a value a line feed becomes CR LF (RFC 6068, section 5)
-abbrev pub part_byte : Part → ℕ → List ℕ
+abbrev pub part_byte : LinkPart → ℕ → List ℕ
 part_byte Path b = if b == 64 then 64 ∷ [] else encoded_byte b
 part_byte Addresses b = if b == 64 then 64 ∷ [] else (if b == 44 then 44 ∷ [] else encoded_byte b)
 part_byte Value b = if b == 10 then codes "%0D%0A" else encoded_byte b
 
-unfoldable pub part_text : Part → List ℕ → List ℕ  -- a part of a link, percent-encoded
+unfoldable pub part_text : LinkPart → List ℕ → List ℕ  -- a part of a link, percent-encoded
 part_text part bytes = flat_map (part_byte part) bytes
 
 abbrev pub Parameter : Type 0  -- a key and a value

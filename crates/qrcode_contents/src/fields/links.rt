@@ -9,7 +9,7 @@ use crate::fields::percents::push_byte;
 
 /// The part of a link that a text is in.
 #[derive(Copy, Clone, PartialEq, Eq, Debug)]
-pub enum Part {
+pub enum LinkPart {
     /// A path, in which `@` is not encoded.
     Path,
     /// A path of addresses, in which neither `@` nor `,` is encoded.
@@ -19,15 +19,15 @@ pub enum Part {
 }
 
 // Appends a byte, encoded for this part of a link.
-fn push_part_byte(text: &mut String, part: Part, byte: u8) -> ContentResult<()>
+fn push_part_byte(text: &mut String, part: LinkPart, byte: u8) -> ContentResult<()>
     ensures appends { OnOk result (string_bytes text.new
         ≡ string_bytes text.old ++ part_byte part byte) }
     ensures memory { IsOkUnless result OutOfMemory }
 {
     match (part, byte) {
-        (Part::Path | Part::Addresses, b'@') => text.push_str("@")?,
-        (Part::Addresses, b',') => text.push_str(",")?,
-        (Part::Value, b'\n') => text.push_str("%0D%0A")?,
+        (LinkPart::Path | LinkPart::Addresses, b'@') => text.push_str("@")?,
+        (LinkPart::Addresses, b',') => text.push_str(",")?,
+        (LinkPart::Value, b'\n') => text.push_str("%0D%0A")?,
         _ => push_byte(text, byte)?,
     }
     Ok(())
@@ -37,7 +37,7 @@ fn push_part_byte(text: &mut String, part: Part, byte: u8) -> ContentResult<()>
 ///
 /// Errors: only `OutOfMemory`; some of it may then be appended.
 #[tactic(auto, unfolding(crate::specs::fields::Links::part_text))]
-pub fn push_part(text: &mut String, part: Part, value: &str) -> ContentResult<()>
+pub fn push_part(text: &mut String, part: LinkPart, value: &str) -> ContentResult<()>
     ensures appends { OnOk result (string_bytes text.new
         ≡ string_bytes text.old ++ part_text part value.now) }
     ensures memory { IsOkUnless result OutOfMemory }
@@ -65,7 +65,7 @@ fn push_parameter(text: &mut String, mark: &str, key: &str, value: &str) -> Cont
     text.push_str(mark)?;
     text.push_str(key)?;
     text.push_str("=")?;
-    push_part(text, Part::Value, value)
+    push_part(text, LinkPart::Value, value)
 }
 
 /// Appends parameters, each a key and a value, and leaves out those whose value is empty. Before

@@ -8,11 +8,11 @@ use Rattle.qrcode_types.specs.declared.types.Mode.TheVariants.{Numeric, Alphanum
 use Rattle.qrcode_bits.specs.Tokens.{first_byte}
 use Rattle.qrcode_bits.specs.Written.{Piece}
 use Rattle.qrcode_bits.specs.declared.optimize.Segment.{Segment}
-use Rattle.qrcode_gs1.specs.declared.symbol.Position.{Position}
-use Rattle.qrcode_gs1.specs.declared.symbol.Position.TheVariants.{First, Second}
+use Rattle.qrcode_gs1.specs.declared.symbol.Fnc1.{Fnc1}
+use Rattle.qrcode_gs1.specs.declared.symbol.Fnc1.TheVariants.{First, Second}
 
 -- the mode indicator of FNC1, and in second position the application's indicator
-abbrev pub mark : Position → List Bool
+abbrev pub mark : Fnc1 → List Bool
 mark First = number_bits 4 5
 mark (Second application) = number_bits 4 9 ++ number_bits 8 application
 

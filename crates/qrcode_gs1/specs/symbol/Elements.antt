@@ -6,7 +6,7 @@ use Rattle.qrcode_gs1.specs.Refusals.{refusal_from}
 use Rattle.qrcode_gs1.specs.declared.errors.Gs1Error.TheVariants.{OutOfMemory}
 use Rattle.qrcode.specs.Code.{Code}
 use Rattle.qrcode_gs1.specs.symbol.Symbols.{IsMarkedSymbol, IsMarkedRefused}
-use Rattle.qrcode_gs1.specs.declared.symbol.Position.TheVariants.{First}
+use Rattle.qrcode_gs1.specs.declared.symbol.Fnc1.TheVariants.{First}
 use Rattle.qrcode_gs1.specs.declared.symbol.errors.SymbolError.{SymbolError}
 use Rattle.qrcode_gs1.specs.declared.symbol.errors.SymbolError.TheVariants.{Elements, Symbol}
 

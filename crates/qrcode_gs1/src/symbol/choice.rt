@@ -5,14 +5,14 @@ ghost use Rattle.qrcode_types.specs.declared.types.QrError.TheVariants.{DataTooL
 ghost use Rattle.qrcode_bits.specs.Refusals.{data_limit};
 ghost use Rattle.qrcode_gs1.specs.symbol.Symbols.{HoldsMarked};
 
-use crate::symbol::Position;
+use crate::symbol::Fnc1;
 use crate::symbol::least::fewest_bits;
 use crate::symbol::mark::mark_length;
 use qrcode::types::{EcLevel, QrError, QrResult, Version};
 use qrcode_types::tables;
 
 // Returns whether a Normal version holds `bytes` after the mark.
-fn holds(bytes: &[u8], position: Position, ec_level: EcLevel, number: usize) -> bool
+fn holds(bytes: &[u8], position: Fnc1, ec_level: EcLevel, number: usize) -> bool
     requires length_at_most { length bytes.now ≤ data_limit }
     requires at_least { 1 ≤ number }
     requires at_most { number ≤ 40 }
@@ -33,7 +33,7 @@ fn holds(bytes: &[u8], position: Position, ec_level: EcLevel, number: usize) -> 
 // Errors: `DataTooLong` if none does.
 pub(crate) fn least_number(
     bytes: &[u8],
-    position: Position,
+    position: Fnc1,
     ec_level: EcLevel,
     from: usize,
 ) -> QrResult<usize>

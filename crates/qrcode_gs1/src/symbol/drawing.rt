@@ -11,7 +11,7 @@ ghost use Rattle.qrcode_bits.specs.Written.{pieces_of, written, terminated};
 ghost use Rattle.qrcode_gs1.specs.symbol.Characters.{mark};
 ghost use Rattle.qrcode_gs1.specs.symbol.Symbols.{HoldsMarked, IsMarkedList, IsMarkedSymbol, IsMarkedRefused};
 
-use crate::symbol::Position;
+use crate::symbol::Fnc1;
 use crate::symbol::characters::Characters;
 use crate::symbol::choice::least_number;
 use crate::symbol::least::least_segments;
@@ -28,7 +28,7 @@ fn ended_bits(
     alloc: Global,
     bytes: &[u8],
     segments: Vec<Segment>,
-    position: Position,
+    position: Fnc1,
     version: Version,
     ec_level: EcLevel,
 ) -> QrResult<Bits>
@@ -56,7 +56,7 @@ fn ended_bits(
 fn marked_bits(
     alloc: Global,
     bytes: &[u8],
-    position: Position,
+    position: Fnc1,
     number: usize,
     ec_level: EcLevel,
 ) -> QrResult<Bits>
@@ -83,7 +83,7 @@ fn marked_bits(
 pub(crate) fn symbol(
     alloc: Global,
     bytes: &[u8],
-    position: Position,
+    position: Fnc1,
     ec_level: EcLevel,
     from: usize,
 ) -> QrResult<QrCode>

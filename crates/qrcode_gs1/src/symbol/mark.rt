@@ -7,30 +7,30 @@ ghost use Rattle.qrcode_bits.specs.Pushes.{with_bits};
 ghost use Rattle.qrcode_bits.specs.Refusals.{bit_limit};
 ghost use Rattle.qrcode_gs1.specs.symbol.Characters.{mark};
 
-use crate::symbol::Position;
+use crate::symbol::Fnc1;
 use qrcode::types::QrResult;
 use qrcode_bits::bits::Bits;
 
 // Returns how many bits the mark takes.
-pub(crate) fn mark_length(position: Position) -> usize
+pub(crate) fn mark_length(position: Fnc1) -> usize
     ensures value { result ≡ length (mark position) }
     ensures at_most { result ≤ 12 }
 {
     match position {
-        Position::First => 4,
-        Position::Second(_) => 12,
+        Fnc1::First => 4,
+        Fnc1::Second(_) => 12,
     }
 }
 
 // Appends the mode indicator of FNC1 and, in second position, the application's indicator.
-pub(crate) fn push_mark(bits: &mut Bits, position: Position) -> QrResult<()>
+pub(crate) fn push_mark(bits: &mut Bits, position: Fnc1) -> QrResult<()>
     requires normal { is_micro bits.old.version ≡ false }
     requires room { length bits.old.bits + 12 ≤ bit_limit }
     ensures appends { OnOk result (bits.new ≡ with_bits bits.old (mark position)) }
     ensures memory { IsOkUnless result OutOfMemory }
 {
     match position {
-        Position::First => bits.push_fnc1_first_position(),
-        Position::Second(application) => bits.push_fnc1_second_position(application),
+        Fnc1::First => bits.push_fnc1_first_position(),
+        Fnc1::Second(application) => bits.push_fnc1_second_position(application),
     }
 }

@@ -1,10 +1,10 @@
 use Rattle.std.proofs.Common.{◌≡◌, ◌<◌, ◌∙◌, ℕ, List, length, get_or, refl, sym, subst, arith}
 use Rattle.qrcode_types.specs.Versions.{side}
-use Rattle.qrcode_area.specs.Areas.{LeavesReserve, covers}
-use Rattle.qrcode_area.specs.Reserves.{IsReserve}
-use Rattle.qrcode_area.specs.declared.areas.Rectangle.{Rectangle}
-use Rattle.qrcode_area.proofs.Bounds.{agrees_along}
-use Rattle.qrcode_area.proofs.Shown.{area_is_read, area_keeps_bits}
+use Rattle.qrcode_damage.specs.Areas.{LeavesReserve, covers}
+use Rattle.qrcode_damage.specs.Reserves.{IsReserve}
+use Rattle.qrcode_damage.specs.declared.areas.Rectangle.{Rectangle}
+use Rattle.qrcode_damage.proofs.Bounds.{agrees_along}
+use Rattle.qrcode_damage.proofs.Shown.{area_is_read, area_keeps_bits}
 use Rattle.goqlanis_buffers.specs.Areas.{covered_byte}
 use Rattle.goqlanis_buffers.specs.Shades.{colors_of}
 use Rattle.goqlanis_buffers.proofs.Covered.{agrees, may_not, may_show}

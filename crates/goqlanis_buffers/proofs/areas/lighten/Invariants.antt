@@ -1,5 +1,5 @@
 use Rattle.std.proofs.Common.{◌≡◌, ◌<◌, ◌≤◌, ℕ, length, get_or}
-use Rattle.qrcode_area.specs.Areas.{covers}
+use Rattle.qrcode_damage.specs.Areas.{covers}
 use Rattle.goqlanis_buffers.specs.Areas.{covered_byte}
 use Rattle.goqlanis_buffers.proofs.areas.lighten.Given as goal
 

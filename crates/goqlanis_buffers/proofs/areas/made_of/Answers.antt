@@ -1,8 +1,8 @@
 use Rattle.std.proofs.Common.{◌≡◌, ◌∙◌, ℕ, Option, Some, None, is_some, refl, sym, ap, ap₂, subst, arith}
 use Rattle.std.specs.Int.{from_bool}
 use Rattle.std.specs.Prelude.{unwrap_or}
-use Rattle.qrcode_area.specs.Reserves.{IsLeast}
-use Rattle.qrcode_area.proofs.Bounds.{length_counts}
+use Rattle.qrcode_damage.specs.Reserves.{IsLeast}
+use Rattle.qrcode_damage.proofs.Bounds.{length_counts}
 use Rattle.goqlanis_buffers.specs.Areas.{told}
 use Rattle.goqlanis_buffers.proofs.areas.made_of.Goals as goal
 

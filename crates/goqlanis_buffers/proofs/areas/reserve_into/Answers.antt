@@ -1,6 +1,6 @@
 use Rattle.std.proofs.Common.{length, sym, subst, ap, arith}
-use Rattle.qrcode_area.specs.Areas.{covers}
-use Rattle.qrcode_area.proofs.Bounds.{length_counts}
+use Rattle.qrcode_damage.specs.Areas.{covers}
+use Rattle.qrcode_damage.proofs.Bounds.{length_counts}
 use Rattle.goqlanis_buffers.proofs.Fields.{handed_back}
 use Rattle.goqlanis_buffers.specs.Areas.{IsReserveCause}
 use Rattle.goqlanis_buffers.proofs.areas.reserve_into.Goals as goal

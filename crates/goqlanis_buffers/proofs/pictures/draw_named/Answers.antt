@@ -1,5 +1,5 @@
 use Rattle.std.proofs.Common.{◌∙◌, rules}
-use Rattle.qrcode_sheets.specs.Formats.{IsDrawn}
+use Rattle.qrcode_sheets.specs.Drawn.{IsSheetFile}
 use Rattle.qrcode_sheets.specs.Sheets.{overlay_of}
 use Rattle.goqlanis_buffers.specs.Drawings.{sheet}
 use Rattle.goqlanis_buffers.proofs.Tinted.{are_taken}
@@ -10,7 +10,7 @@ pub returns-in-Ok-clause-drawing : goal.returns-in-Ok-clause-drawing
 returns-in-Ok-clause-drawing c =
     let a = c.args.asked.now in
     let inks = c.in_ok-inks.inks.items in
-    let shown : IsDrawn c.args.format (record (sheet c.args.format a.modules.now a.width a.drawing.now inks) { over = overlay_of c.args.over }) c.in-Ok.file.items = search rules in
+    let shown : IsSheetFile c.args.format (record (sheet c.args.format a.modules.now a.width a.drawing.now inks) { over = overlay_of c.args.over }) c.in-Ok.file.items = search rules in
     record {
       inks = inks;
       sayable = c.requires.drawable.sayable;

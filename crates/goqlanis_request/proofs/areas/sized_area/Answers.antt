@@ -1,8 +1,8 @@
 use Rattle.std.proofs.Common.{◌≡◌, ℕ, Bool, arith, subst, ap, ◌∙◌}
-use Rattle.qrcode_area.specs.Areas.{covers}
-use Rattle.qrcode_area.specs.Rectangles.{centred, only, Fits}
-use Rattle.qrcode_area.specs.Reserves.{IsItsExcess}
-use Rattle.qrcode_area.specs.declared.rectangles.Wish.{Wish}
+use Rattle.qrcode_damage.specs.Areas.{covers}
+use Rattle.qrcode_damage.specs.Rectangles.{centred, only, Fits}
+use Rattle.qrcode_damage.specs.Reserves.{IsItsExcess}
+use Rattle.qrcode_damage.specs.declared.rectangles.Wish.{Wish}
 use Rattle.goqlanis_request.specs.Areas.{wish_for}
 use Rattle.goqlanis_request.proofs.Roomier.{fits_plainly}
 use Rattle.goqlanis_request.proofs.areas.sized_area.Goals as goal

@@ -1,7 +1,7 @@
 use Rattle.std.proofs.Common.{map, subst, ◌∙◌}
 use Rattle.qrcode_gs1.specs.Items.{item}
 use Rattle.qrcode_gs1.specs.symbol.Symbols.{IsMarkedRefused}
-use Rattle.qrcode_gs1.specs.declared.symbol.Position.TheVariants.{First}
+use Rattle.qrcode_gs1.specs.declared.symbol.Fnc1.TheVariants.{First}
 use Rattle.qrcode_gs1.proofs.MarkedElements.{symbol_refused}
 use Rattle.qrcode_gs1.proofs.symbol.gs1_from.Goals as goal
 

@@ -17,6 +17,6 @@ later_answers (Some e) later r P is answers = cc
 pub returns-clause-reads : goal.returns-clause-reads
 returns-clause-reads g c =
     later_answers _ _ c.payload_text.result _
-    (checked_none (long_refusal (fields_of c.args.kind) (g.G.Given.fields c.args.given.now)) c.refuse_long.result c.in_ok-refuse_long.field-0
-    (c.refuse_long.ensures ∙ ap (λ fields. checked (long_refusal fields (g.G.Given.fields c.args.given.now))) c.fields_of.ensures.value) c.in_ok-refuse_long.was)
+    (checked_none (long_refusal (fields_of c.args.kind) (g.G.FieldSource.fields c.args.given.now)) c.refuse_long.result c.in_ok-refuse_long.field-0
+    (c.refuse_long.ensures ∙ ap (λ fields. checked (long_refusal fields (g.G.FieldSource.fields c.args.given.now))) c.fields_of.ensures.value) c.in_ok-refuse_long.was)
     c.payload_text.ensures.reads

@@ -4,7 +4,7 @@ use Rattle.std.proofs.lemmas.Slice.Zip.{AllZip-long}
 use Rattle.qrcode_scan.specs.Checked.{IsCheckOfScan}
 use Rattle.qrcode_scan.specs.Scans.{IsScanOf, IsUnreadPicture}
 use Rattle.qrcode_scan.specs.declared.codes.Codes.{Codes}
-use Rattle.qrcode_scan.specs.declared.scanning.Unread.TheVariants.{NoSymbol}
+use Rattle.qrcode_scan.specs.declared.scanning.ScanError.TheVariants.{NoSymbol}
 use Rattle.qrcode_scan.proofs.Checked.{have_squares}
 use Rattle.qrcode_scan.proofs.checking.check_codes.Goals as goal
 

@@ -2,8 +2,8 @@ use Rattle.std.proofs.Common.{◌≡◌, ◌↔◌, false, fold, ap, sym, subst,
 use Rattle.qrcode_layout.specs.Figures.{alignments, version_figures}
 use Rattle.qrcode_layout.specs.Patterns.{is_functional_place}
 use Rattle.qrcode_sheets.specs.Parts.{part_over}
-use Rattle.qrcode_sheets.specs.declared.parts.Part.{Part}
-use Rattle.qrcode_sheets.specs.declared.parts.Part.TheVariants.{Data}
+use Rattle.qrcode_sheets.specs.declared.parts.CodePart.{CodePart}
+use Rattle.qrcode_sheets.specs.declared.parts.CodePart.TheVariants.{Data}
 use Rattle.qrcode_sheets.proofs.Partition.{format_part, micro_part, normal_part, free_part}
 use Rattle.qrcode_sheets.proofs.parts.part_of.Goals as goal
 
@@ -11,7 +11,7 @@ pub returns-then-is_some-clause-value : goal.returns-then-is_some-clause-value
 returns-then-is_some-clause-value c = format_part c.args.version c.args.x c.args.y (ap is_some (sym c.format_index.ensures.value) ∙ sym c.is_some.ensures ∙ c.if-is_some.true)
 
 pub returns-then-is_some-clause-free : goal.returns-then-is_some-clause-free
-returns-then-is_some-clause-free c = subst (λ (p : Part). (p ≡ Data) ↔ (is_functional_place c.args.version c.args.x c.args.y ≡ false)) (sym (returns-then-is_some-clause-value c)) (free_part c.args.version c.args.x c.args.y)
+returns-then-is_some-clause-free c = subst (λ (p : CodePart). (p ≡ Data) ↔ (is_functional_place c.args.version c.args.x c.args.y ≡ false)) (sym (returns-then-is_some-clause-value c)) (free_part c.args.version c.args.x c.args.y)
 
 pub returns-then-is_micro-clause-value : goal.returns-then-is_micro-clause-value
 returns-then-is_micro-clause-value c =
@@ -22,7 +22,7 @@ returns-then-is_micro-clause-value c =
     ∙ micro_part v c.args.x c.args.y c.side-width.result (sym c.is_micro.ensures ∙ c.if-is_micro.true) c.side-width.ensures.value none
 
 pub returns-then-is_micro-clause-free : goal.returns-then-is_micro-clause-free
-returns-then-is_micro-clause-free c = subst (λ (p : Part). (p ≡ Data) ↔ (is_functional_place c.args.version c.args.x c.args.y ≡ false)) (sym (returns-then-is_micro-clause-value c)) (free_part c.args.version c.args.x c.args.y)
+returns-then-is_micro-clause-free c = subst (λ (p : CodePart). (p ≡ Data) ↔ (is_functional_place c.args.version c.args.x c.args.y ≡ false)) (sym (returns-then-is_micro-clause-value c)) (free_part c.args.version c.args.x c.args.y)
 
 pub returns-clause-value : goal.returns-clause-value
 returns-clause-value c =
@@ -35,4 +35,4 @@ returns-clause-value c =
     ∙ normal_part v c.args.x c.args.y c.side-width.result (sym c.is_micro.ensures ∙ c.if-is_micro.false) c.side-width.ensures.value none
 
 pub returns-clause-free : goal.returns-clause-free
-returns-clause-free c = subst (λ (p : Part). (p ≡ Data) ↔ (is_functional_place c.args.version c.args.x c.args.y ≡ false)) (sym (returns-clause-value c)) (free_part c.args.version c.args.x c.args.y)
+returns-clause-free c = subst (λ (p : CodePart). (p ≡ Data) ↔ (is_functional_place c.args.version c.args.x c.args.y ≡ false)) (sym (returns-clause-value c)) (free_part c.args.version c.args.x c.args.y)

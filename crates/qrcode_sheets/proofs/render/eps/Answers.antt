@@ -2,7 +2,7 @@ use Rattle.std.proofs.Common.{ap, ap₂, ◌∙◌}
 use Rattle.std.proofs.lemmas.Result.{IfOk-weaker}
 use Rattle.qrcode_sheets.specs.Eps.{eps_file}
 use Rattle.qrcode_render.specs.Setting.{layout_of as at_of}
-use Rattle.qrcode_sheets.specs.Formats.{eps_text}
+use Rattle.qrcode_sheets.specs.Drawn.{eps_text}
 use Rattle.qrcode_sheets.specs.Sheets.{dark_of, light_of, sheet_of}
 use Rattle.qrcode_sheets.proofs.render.eps.Goals as goal
 

@@ -1,8 +1,8 @@
 use Rattle.std.proofs.Common.{rules, subst}
 use Rattle.std.proofs.lemmas.Result.{IfOk-weaker}
 use Rattle.std.specs.Prelude.{IfOk}
-use Rattle.qrcode_formats.specs.declared.Format.TheVariants.{Pdf}
-use Rattle.qrcode_sheets.specs.Formats.{IsShapes}
+use Rattle.qrcode_sheets.specs.declared.formats.Format.TheVariants.{Pdf}
+use Rattle.qrcode_sheets.specs.Drawn.{IsShapes}
 use Rattle.qrcode_sheets.specs.Sheets.{sheet_of}
 use Rattle.qrcode_sheets.proofs.render.pdf_file.Goals as goal
 

@@ -1,5 +1,5 @@
 use Rattle.std.proofs.Common.{Bool, sym, subst, ◌∙◌, IfOk}
-use Rattle.qrcode_sheets.specs.Formats.{IsPng}
+use Rattle.qrcode_sheets.specs.Drawn.{IsPng}
 use Rattle.qrcode_sheets.specs.Sheets.{sheet_of}
 use Rattle.qrcode_sheets.proofs.render.png.Goals as goal
 

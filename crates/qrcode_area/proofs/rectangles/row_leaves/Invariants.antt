@@ -1,7 +1,0 @@
-use Rattle.std.proofs.Common.{◌≡◌, ℕ, ◌<◌, false}
-use Rattle.qrcode_area.specs.Areas.{covers}
-use Rattle.qrcode_area.specs.Rectangles.{shows}
-use Rattle.qrcode_area.proofs.rectangles.row_leaves.Given as goal
-
-abbrev pub invariant-loop-x : goal.invariant-loop-x
-invariant-loop-x l = (k : ℕ) → k < l.x → shows l.kept l.version (covers l.area) k l.y ≡ false

@@ -1,6 +1,0 @@
-mod Below
-mod CodeRows
-mod DamageRows
-mod LeastRows
-mod SymbolRows
-mod Values

@@ -1,4 +1,0 @@
-pub mod Data
-pub mod Files
-pub mod Printed
-pub mod Squares

@@ -1,7 +1,0 @@
-use Rattle.qrcode_formats.specs.Formats.{formats}
-use Rattle.qrcode_formats.proofs.format_numbered.Goals as goal
-
--- the table of the code is the defined one
-pub returns : goal.returns
-unfolding formats
-returns c = c.numbered_among.ensures

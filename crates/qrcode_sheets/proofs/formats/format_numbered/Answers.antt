@@ -1,0 +1,7 @@
+use Rattle.qrcode_sheets.specs.Formats.{formats}
+use Rattle.qrcode_sheets.proofs.formats.format_numbered.Goals as goal
+
+-- the table of the code is the defined one
+pub returns : goal.returns
+unfolding formats
+returns c = c.numbered_among.ensures
