@@ -283,7 +283,8 @@ fn is_among(all: &[Missed], grid: &Grid) -> bool
     ensures { IsFalse result
         → All (λ one. AreApart (place_of grid.now) (place_of one.grid)) all.now }
 {
-    all.iter().any(|other| overlap(place_of(grid), place_of(&other.grid)))
+    all.iter()
+        .any(|other| overlap(place_of(grid), place_of(&other.grid)))
 }
 
 impl Codes {

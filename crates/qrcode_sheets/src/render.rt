@@ -13,7 +13,6 @@ use crate::formats::{Colours, Format, LogoForm};
 use crate::layers::{PartInk, over};
 use crate::packed::{Dot, Packing};
 use crate::pbm::Bit;
-use crate::pdf::Extras;
 use crate::shades::png_file;
 use crate::sheet::{Ink, Overlay, Sheet};
 use crate::svg_path::{Path, framed};
@@ -255,7 +254,7 @@ fn pdf_file(alloc: Global, sheet: &Sheet<'_, '_, '_>) -> QrResult<Vec<u8>>
 {
     let over = over(alloc, Format::Pdf, sheet)?;
     let (dark, light) = (pdf::Color(rgb(sheet.dark)), pdf::Color(rgb(sheet.light)));
-    let extras = Extras {
+    let extras = pdf::Extras {
         dots: sheet.dots.unwrap_or(72).max(1),
         over: &over,
         title: sheet.frame.title,
@@ -294,11 +293,8 @@ fn lines(sheet: &Sheet<'_, '_, '_>, mut text: String) -> QrResult<Vec<u8>>
 pub(crate) fn eps_ink(ink: Ink<'_>) -> eps::Color
     ensures value { result ≡ eps_ink (shade_of ink.entry) }
 {
-    eps::Color {
-        red: ink.red,
-        green: ink.green,
-        blue: ink.blue,
-    }
+    let [red, green, blue] = rgb(ink);
+    eps::Color { red, green, blue }
 }
 
 // The colour for PNG.

@@ -25,7 +25,7 @@ loop-piece-init c = (search rules, ap (λ v. value_text v ++ c.args.text.now) c.
 pub returns-in_default-strip_suffix : goal.returns-in_default-strip_suffix
 returns-in_default-strip_suffix c =
     let parts = split_parts 40 c.loop-piece.left.now (Some (c.in-Some.piece, c.in-Some.behind)) c.in-Some.ensures.cases (omega arith) in
-    record { parts = ap (λ x. value_text x ++ 40 ∷ c.in-Some.behind.now) c.in_ok-push_str.ensures.bytes ∙ value_more (string_bytes c.loop-piece.value) c.in-Some.piece.now (40 ∷ c.in-Some.behind.now) parts.1 ∙ ap (λ x. value_text (string_bytes c.loop-piece.value) ++ x) (sym parts.0) ∙ c.loop-piece.invariant.1; }
+    record { parts = ap (λ x. value_text x ++ 40 ∷ c.in-Some.behind.now) c.in_ok-push_str.ensures.bytes ∙ value_more (string_bytes c.loop-piece.value) c.in-Some.piece.now (40 ∷ c.in-Some.behind.now) parts.1 ∙ ap (λ x. value_text (string_bytes c.loop-piece.value) ++ x) (sym parts.0) ∙ c.loop-piece.invariant.1 }
 
 pub loop-piece-preserved : goal.loop-piece-preserved
 loop-piece-preserved c =
@@ -33,12 +33,14 @@ loop-piece-preserved c =
     let start = c.in-Some-strip_suffix.start.now in
     let behind = c.in-Some.behind.now in
     let parts = split_parts 40 c.loop-piece.left.now (Some (c.in-Some.piece, c.in-Some.behind)) c.in-Some.ensures.cases (omega arith) in
-    let ends = strip_suffix_char 92 c.in-Some.piece.now (Some c.in-Some-strip_suffix.start) c.in-Some-strip_suffix.ensures.cases (omega arith) in
-    (search rules, ap (λ x. value_text x ++ behind) (c.in_ok-push.ensures.bytes ∙ ap (λ x. string_bytes c.push_str-in-Some.new.self ++ x) (encode_ascii 40 (omega arith)) ∙ ap (λ x. x ++ 40 ∷ []) c.in_ok-push_str-2.ensures.bytes)
-    ∙ ap (λ x. x ++ behind) (flat_map-append value_byte (v ++ start) (40 ∷ []) ∙ ap (λ x. x ++ 92 ∷ 40 ∷ []) (flat_map-append value_byte v start)) ∙ regroup (value_text v) (value_text start) behind
-    ∙ ap (λ x. value_text v ++ (x ++ 40 ∷ behind)) (sym (flat_map-append value_byte start (92 ∷ [])) ∙ ap value_text (sym ends) ∙ value_plain c.in-Some.piece.now parts.1) ∙ ap (λ x. value_text v ++ x) (sym parts.0) ∙ c.loop-piece.invariant.1)
+    let ends = strip_suffix_char 92 c.in-Some.piece.now (Some c.in-Some-strip_suffix.start) c.in-Some-strip_suffix.ensures.cases (omega arith) in (
+      search rules,
+      ap (λ x. value_text x ++ behind) (c.in_ok-push.ensures.bytes ∙ ap (λ x. string_bytes c.push_str-in-Some.new.self ++ x) (encode_ascii 40 (omega arith)) ∙ ap (λ x. x ++ 40 ∷ []) c.in_ok-push_str-2.ensures.bytes)
+          ∙ ap (λ x. x ++ behind) (flat_map-append value_byte (v ++ start) (40 ∷ []) ∙ ap (λ x. x ++ 92 ∷ 40 ∷ []) (flat_map-append value_byte v start)) ∙ regroup (value_text v) (value_text start) behind
+          ∙ ap (λ x. value_text v ++ (x ++ 40 ∷ behind)) (sym (flat_map-append value_byte start (92 ∷ [])) ∙ ap value_text (sym ends) ∙ value_plain c.in-Some.piece.now parts.1) ∙ ap (λ x. value_text v ++ x) (sym parts.0) ∙ c.loop-piece.invariant.1,
+    )
 
 pub returns : goal.returns
 returns c =
     let none = split_parts 40 c.loop-piece.left.now None c.in_default.ensures.cases (omega arith) in
-    record { parts = ap (λ x. value_text x ++ []) c.in_ok-push_str-3.ensures.bytes ∙ value_more (string_bytes c.loop-piece.value) c.loop-piece.left.now [] none ∙ ap (λ x. value_text (string_bytes c.loop-piece.value) ++ x) (append-nil c.loop-piece.left.now) ∙ c.loop-piece.invariant.1; }
+    record { parts = ap (λ x. value_text x ++ []) c.in_ok-push_str-3.ensures.bytes ∙ value_more (string_bytes c.loop-piece.value) c.loop-piece.left.now [] none ∙ ap (λ x. value_text (string_bytes c.loop-piece.value) ++ x) (append-nil c.loop-piece.left.now) ∙ c.loop-piece.invariant.1 }
