@@ -4,6 +4,8 @@ use Rattle.std.proofs.Math.Nat.{mul-le-mul_right}
 use Rattle.std.proofs.lemmas.Nat.{div-add-mod', mod_below, div_below}
 use Rattle.std.proofs.lemmas.Bool.{cases_lt}
 use Rattle.qrcode_render.specs.Bitmap.{Bitmap}
+use Rattle.qrcode_render.specs.Layout.{layout}
+use Rattle.qrcode_render.specs.Picture.{is_dark_pixel}
 use Rattle.qrcode_scan.specs.Grids.{colours_at}
 use Rattle.qrcode_scan.specs.Squares.{mark_at}
 use Rattle.qrcode_scan.specs.Wholes.{BeginsAt, HasFinder, HasPatterns, IsGridAt, IsGridOf, IsWholeIn, Whole, corner_start, count_of, dark_in, finder_dark, light_row, marked}
@@ -17,11 +19,15 @@ in_square i x count scale left inside =
     let across = mul-le-mul_right scale left in
     omega (arith, across, inside)
 
+behind_none : (i : ℕ) → i ≡ 0 + i
+behind_none i = omega arith
+
 -- each pixel of a module has its colour
 seen_module : (b : Bitmap) (w : Whole) (i j x y : ℕ) → IsWholeIn b w → i < count_of w → j < count_of w → x < w.scale → y < w.scale
     → mark_at b (w.left + (i * w.scale + x)) (w.top + (j * w.scale + y)) ≡ dark_in w i j
 seen_module b w i j x y is left top inside low =
     is.shown (i * w.scale + x) (j * w.scale + y) (in_square i x (count_of w) w.scale left inside) (in_square j y (count_of w) w.scale top low)
+    ∙ ap₂ (λ (m n : ℕ). is_dark_pixel (layout (count_of w) 0 w.scale w.scale) w.modules (m * w.scale + x) (n * w.scale + y)) (behind_none i) (behind_none j)
     ∙ module_pixel (count_of w) 0 w.scale w.modules i j x y left top inside low
 
 -- and so has the one at its centre

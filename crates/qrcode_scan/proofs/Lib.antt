@@ -6,6 +6,7 @@ mod HalfBlocks
 mod Marked
 mod Pieces
 mod Plain
+mod Rasters
 mod Read
 mod ReadTexts
 mod Sampled

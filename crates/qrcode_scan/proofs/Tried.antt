@@ -27,14 +27,14 @@ pub grid_of : (b : Bitmap) (w : Whole) (g : Grid) (x y scale version column row 
 grid_of b w g x y scale version column row r l across down at is =
     let c = corner_start w.is_right (count_of w) * w.scale in
     let d = corner_start w.is_lower (count_of w) * w.scale in
-    let left = start_of w.left c column scale w.scale x is.begins.column (far_of w scale version column r w.is_right is.scale is.version is.right across) is.scale in
-    let top = start_of w.top d row scale w.scale y is.begins.row (far_of w scale version row l w.is_lower is.scale is.version is.lower down) is.scale in
+    let left = start_of w.left c column scale w.scale x is.begins.column (far_of w scale version column r w.is_right is.size is.number is.right across) is.size in
+    let top = start_of w.top d row scale w.scale y is.begins.row (far_of w scale version row l w.is_lower is.size is.number is.lower down) is.size in
     record {
-      count = at.count ∙ ap (λ (v : ℕ). 17 + 4 * v) (sym is.version);
-      left = at.left ∙ ap₂ (λ (m s : ℕ). m + s / 2) left (sym is.scale);
-      top = at.top ∙ ap₂ (λ (m s : ℕ). m + s / 2) top (sym is.scale);
-      across = at.across ∙ sym is.scale;
-      down = at.down ∙ sym is.scale;
+      count = at.count ∙ ap (λ (v : ℕ). 17 + 4 * v) (sym is.number);
+      left = at.left ∙ ap₂ (λ (m s : ℕ). m + s / 2) left (sym is.size);
+      top = at.top ∙ ap₂ (λ (m s : ℕ). m + s / 2) top (sym is.size);
+      across = at.across ∙ sym is.size;
+      down = at.down ∙ sym is.size;
       lean = at.lean;
       fall = at.fall;
       parts = at.parts;
@@ -157,7 +157,7 @@ sizes_more b old new x y scale i grid pushed value none before w at same below =
   | inr late ↦
       let n = numbered w.version i w.is_right w.is_lower at.whole.version.0 (omega (arith, below, late)) in
       size_tried b old new x y scale (1 + i / 4) (i % 2 == 1) (i / 2 % 2 == 1) grid w pushed value none
-      (record { begins = at; scale = same; version = n.0; right = n.1; lower = n.2 })
+      (record { begins = at; size = same; number = n.0; right = n.1; lower = n.2 })
 ]
 
 -- the same place, by other numbers

@@ -153,8 +153,8 @@ pub record BeginsAt (b : Bitmap) (w : Whole) (x y : ℕ) : Type 0 where
 -- the square has this version and scale, and in this corner a finder pattern with this first light pixel
 pub record IsSought (b : Bitmap) (x y scale version : ℕ) (is_right is_lower : Bool) (w : Whole) : Type 0 where
   pub begins : BeginsAt b w x y
-  pub scale : w.scale ≡ scale
-  pub version : w.version ≡ version
+  pub size : w.scale ≡ scale
+  pub number : w.version ≡ version
   pub right : w.is_right ≡ is_right
   pub lower : w.is_lower ≡ is_lower
 

@@ -293,7 +293,12 @@ impl Codes {
         ensures some { IsTrue result → Any (Overlaps grid.now) self.now.scans.items }
         ensures none { IsFalse result → All (IsApartFrom grid.now) self.now.scans.items }
     {
-        self.scans.iter().any(|scan| is_over(scan, grid))
+        for scan in &self.scans {
+            if is_over(scan, grid) {
+                return true;
+            }
+        }
+        false
     }
 }
 

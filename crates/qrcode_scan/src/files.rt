@@ -89,8 +89,14 @@ fn packed_marks(
 {
     let stride = (across + 7) / 8;
     let mut marks = Vec::with_capacity(alloc, across * down)?;
-    for i in 0..across * down {
-        marks.push(is_black_bit(bytes, stride, i % across, i / across))?;
+    let (mut x, mut y) = (0, 0);
+    for _i in 0..across * down {
+        marks.push(is_black_bit(bytes, stride, x, y))?;
+        x += 1;
+        if x == across {
+            x = 0;
+            y += 1;
+        }
     }
     Ok(marks)
 }
@@ -134,10 +140,12 @@ fn plain_length(bytes: &[u8]) -> usize
     ensures value { result ≡ prefix_len is_plain bytes.now }
     ensures at_most { result ≤ length bytes.now }
 {
-    bytes
-        .iter()
-        .position(|byte| !is_plain(*byte))
-        .unwrap_or(bytes.len())
+    for i in 0..bytes.len() {
+        if !is_plain(bytes[i]) {
+            return i;
+        }
+    }
+    bytes.len()
 }
 
 // Whether a byte is 0, 1 or white space.

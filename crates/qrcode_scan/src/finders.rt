@@ -72,7 +72,7 @@ pub(crate) fn column_of(pixels: &Pixels, x: usize) -> Line
 /// Finds finder patterns, in the order of their rows, at most 1,024, and 48 at any angle.
 ///
 /// Errors: only `AllocError`, if memory runs out.
-pub(crate) fn finders(alloc: Global, pixels: &Pixels) -> Result<Finders, AllocError>
+pub(crate) fn all_finders(alloc: Global, pixels: &Pixels) -> Result<Finders, AllocError>
     ensures { IfOk result (λ found. (length found.upright.items ≤ 1024)
         × (length found.turned.items ≤ 48)) }
 {

@@ -2,7 +2,7 @@
 
 ghost use Rattle.std.specs.Prelude.{◌≡◌, ◌^◌, ◌<◌, ◌≤◌, IfSome};
 
-use crate::finders::{Finder, finders};
+use crate::finders::{Finder, all_finders};
 use crate::micro::push_micro;
 use crate::pixels::Pixels;
 use crate::samples::mark_in;
@@ -84,7 +84,7 @@ fn push_grids(
     grids: &mut Vec<Grid>,
     pixels: &Pixels,
 ) -> Result<Vec<Finder>, AllocError> {
-    let found = finders(alloc, pixels)?;
+    let found = all_finders(alloc, pixels)?;
     for corner in &found.upright {
         let belows = nearest(alloc, &found.upright, *corner, true)?;
         for beside in &nearest(alloc, &found.upright, *corner, false)? {

@@ -49,8 +49,9 @@ pub fn square_of(alloc: Global, pixels: &Pixels) -> Result<Option<Square>, Alloc
         return Ok(None);
     };
     for count in 1..GREATEST_COUNT + 1 {
-        if let Some(square) = square_with_count(alloc, pixels, margin, count)? {
-            return Ok(Some(square));
+        match square_with_count(alloc, pixels, margin, count)? {
+            Some(square) => return Ok(Some(square)),
+            None => {}
         }
     }
     Ok(None)
@@ -66,7 +67,11 @@ fn margin_of(pixels: &Pixels) -> Option<usize>
         → ¬ IsFramedIn pixels.now count zone scale column modules) }
 {
     let across = pixels.sides().0;
-    let margin = first_dark(pixels.marks())? / across;
+    let first = match first_dark(pixels.marks()) {
+        Some(first) => first,
+        None => return None,
+    };
+    let margin = first / across;
     if 2 * margin < across {
         Some(margin)
     } else {

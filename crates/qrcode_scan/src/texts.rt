@@ -72,9 +72,11 @@ fn push_text(text: &mut String, number: Option<u32>, bytes: &[u8]) -> Result<boo
     ensures { IfOk result (λ is_text. IsPushed number bytes.now
         (chars (string_bytes text.old)) (chars (string_bytes text.new)) is_text) }
 {
-    let Some(more) = decode_under(*text.allocator(), number, bytes)? else {
-        return Ok(false);
-    };
-    text.push_str(more.as_str())?;
-    Ok(true)
+    match decode_under(*text.allocator(), number, bytes)? {
+        Some(more) => {
+            text.push_str(more.as_str())?;
+            Ok(true)
+        }
+        None => Ok(false),
+    }
 }

@@ -68,8 +68,9 @@ fn push_row(grids: &mut Vec<Grid>, pixels: &Pixels, y: usize) -> Result<(), Allo
         → IsTriedIn grids.new.items w) }
 {
     for x in 0..pixels.sides().0 {
-        if let Some(finder) = finder_at(pixels, x, y) {
-            push_sizes(grids, pixels, finder)?;
+        match finder_at(pixels, x, y) {
+            Some(finder) => push_sizes(grids, pixels, finder)?,
+            None => {}
         }
     }
     Ok(())
@@ -133,11 +134,13 @@ fn is_first_light(pixels: &Pixels, x: usize, y: usize) -> bool
         × (mark_at pixels.now x (y - 1) ≡ true) }
     ensures none { IsFalse result → (w : Whole) → ¬ BeginsAt pixels.now w x y }
 {
-    x != 0
-        && y != 0
-        && !mark_at(pixels, x, y)
-        && mark_at(pixels, x - 1, y)
-        && mark_at(pixels, x, y - 1)
+    if x == 0 || y == 0 || mark_at(pixels, x, y) {
+        return false;
+    }
+    if !mark_at(pixels, x - 1, y) {
+        return false;
+    }
+    mark_at(pixels, x, y - 1)
 }
 
 // Counts the light pixels from a place to the right.
@@ -182,9 +185,11 @@ fn push_sizes(grids: &mut Vec<Grid>, pixels: &Pixels, finder: Pattern) -> Result
 fn push_new(grids: &mut Vec<Grid>, grid: Option<Grid>) -> Result<(), AllocError>
     ensures { OnOk result (IsPushed grids.old.items grid grids.new.items) }
 {
-    match grid {
-        Some(grid) if grids.len() < MOST_GRIDS && !is_known(grids, &grid) => grids.push(grid)?,
-        _ => {}
+    let Some(grid) = grid else {
+        return Ok(());
+    };
+    if grids.len() < MOST_GRIDS && !is_known(grids, &grid) {
+        grids.push(grid)?;
     }
     Ok(())
 }
@@ -194,7 +199,12 @@ fn is_known(grids: &[Grid], grid: &Grid) -> bool
     ensures known { IsTrue result → Any (λ other. AreSame other grid.now) grids.now }
     ensures new { IsFalse result → All (λ other. ¬ AreSame other grid.now) grids.now }
 {
-    grids.iter().any(|other| is_same(other, grid))
+    for other in grids {
+        if is_same(other, grid) {
+            return true;
+        }
+    }
+    false
 }
 
 // Whether two grids have the same modules.

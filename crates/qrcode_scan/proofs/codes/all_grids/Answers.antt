@@ -11,5 +11,5 @@ returns c =
     let is : new ≡ insert old 0 c.in-Some.grid = search rules in
     λ w whole. elim (c.in_ok-grids.ensures w whole) [
       | inl many ↦ inl many
-      | inr any ↦ inr (any_kept (IsGridOf w) old new c.in-Some.grid (0, (omega arith, is)) any)
+      | inr any ↦ inr (any_kept (IsGridOf w) old new c.in-Some.grid (0, omega arith, is) any)
     ]
