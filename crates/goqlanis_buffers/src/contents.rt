@@ -119,12 +119,22 @@ impl FieldSource for Placed<'_, '_> {
 }
 
 // The text of the field at an index; empty if there is none, or it is not UTF-8.
-#[tactic(auto, using(crate::proofs::Fields::text_test, crate::proofs::Fields::no_text_test))]
 fn valid_at<'a>(given: &[Item<'a>], place: usize) -> &'a str
     ensures { result.now ≡ valid_text (text_at given.now place) }
 {
     match given.get(place) {
-        Some(field) => str::from_utf8(field.bytes).unwrap_or(""),
+        Some(field) => valid_text(field.bytes),
         None => "",
+    }
+}
+
+// The bytes as text, or nothing if they are not UTF-8.
+#[tactic(auto, using(crate::proofs::Fields::text_test, crate::proofs::Fields::no_text_test))]
+fn valid_text(bytes: &[u8]) -> &str
+    ensures { result.now ≡ valid_text bytes.now }
+{
+    match str::from_utf8(bytes) {
+        Ok(text) => text,
+        Err(_) => "",
     }
 }

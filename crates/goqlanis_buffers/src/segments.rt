@@ -115,10 +115,8 @@ pub fn smallest_version(alloc: Global, segments: &[Segment<'_>], level: u32) -> 
     for number in 1..41 {
         match check_held(alloc, segments, Version::Normal(number as i16), ec_level) {
             Ok(()) => return Ok(number),
-            Err(refusal) => match refusal {
-                Refusal::NoRoom => {}
-                _ => return Err(refusal),
-            },
+            Err(refusal) if refusal != Refusal::NoRoom => return Err(refusal),
+            Err(_) => {}
         }
     }
     Err(Refusal::NoRoom)

@@ -14,7 +14,7 @@ told_as (Some n) = refl
 pub returns : goal.returns
 returns c = λ version level area h.
     let count = length_counts version level area c.args.reserve.now.touched.items h.counts in
-    let same = ap₂ told (ap from_bool c.is_some.ensures) c.unwrap_or.ensures ∙ told_as c.least.result in
+    let same = ap₂ told (ap from_bool c.is_some.ensures) c.unwrap_or.ensures ∙ told_as c.least-least.result in
     record {
       counted = h.counts;
       blocks = omega (arith, count);
@@ -23,5 +23,5 @@ returns c = λ version level area h.
       worst = λ b below. h.worst b (omega (arith, below, count));
       first = h.first;
       last = h.last;
-      least = subst (IsLeast version level area) (sym same) (c.least.ensures version level area h);
+      least = subst (IsLeast version level area) (sym same) (c.least-least.ensures version level area h);
     }

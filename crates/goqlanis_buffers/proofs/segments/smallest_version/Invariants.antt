@@ -5,4 +5,4 @@ use Rattle.goqlanis_buffers.proofs.segments.smallest_version.Given as goal
 
 -- no smaller version has room for the segments
 abbrev pub invariant-loop-number : goal.invariant-loop-number
-invariant-loop-number l = (1 ≤ l.number) × ((n : ℕ) → n < l.number → 1 ≤ n → HasNoRoom (Normal (pos n)) l.ec_level l.fn.segments)
+invariant-loop-number l = (1 ≤ l.number) × ((n : ℕ) → 1 ≤ n → n < l.number → HasNoRoom (Normal (pos n)) l.ec_level l.fn.segments)
