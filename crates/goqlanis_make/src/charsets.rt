@@ -64,8 +64,8 @@ fn check_characters(alloc: Global, set: Charset, text: &str) -> Done<()> {
     let character = text.chars().nth(place).unwrap_or(' ');
     let code = u32::from(character);
     refused!(alloc;
-        "character {number}, {character} (U+{code:04X}), is not in {name}; --charset shortest finds \
-        a set that has all"
+        "character {number}, {character} (U+{code:04X}), is not in {name}; --charset shortest \
+        finds a set that has all"
     )
 }
 

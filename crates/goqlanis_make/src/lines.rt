@@ -133,7 +133,7 @@ impl<'a> Output<'a> {
         let asked = Job { doubts, ..*asked };
         self.table.check_line(rt, doubts, line)?;
         let Some(pattern) = &self.pattern else {
-            let drawing = self.draw_data(rt, &asked, line)?;
+            let drawing = draw_data(rt, &asked, &self.table, line)?;
             return write_page(rt, &asked, &mut self.pages, drawing);
         };
         let name = pattern.name(rt.alloc(), line)?;
@@ -146,7 +146,7 @@ impl<'a> Output<'a> {
         check_made(rt, &asked, name.as_str())?;
         let target = Target::File(name.as_str());
         let asked = Job { target, ..asked };
-        let drawing = self.draw_data(rt, &asked, line)?;
+        let drawing = draw_data(rt, &asked, &self.table, line)?;
         self.has_files = self.has_files || drawing.is_some();
         write_drawing(rt, &asked, drawing)?;
         if pattern.has_text() {
@@ -154,29 +154,34 @@ impl<'a> Output<'a> {
         }
         Ok(())
     }
+}
 
-    // Draws what a line holds.
-    fn draw_data(&self, rt: &HostRuntime, asked: &Job<'_, '_>, line: &Line<'_>) -> Done<Drawing> {
-        let columns = &self.table.columns;
-        if let Work::Payload(fields) = asked.work {
-            let row = Row::of(rt.alloc(), columns, line, &fields)?;
-            if let Some(field) = loose(rt.alloc(), columns, line)? {
-                let label = columns.label(rt.alloc(), field)?;
-                doubted!(rt, asked.doubts;
-                    "{label}: the space or quotation mark at its start or end is encoded"
-                )?;
-            }
-            return draw_payload(rt, fields.kind, asked, &row, columns);
-        }
-        if self.table.is_whole {
-            return draw(rt, asked, line.bytes);
-        }
-        let data = self.table.data(rt.alloc(), line)?;
-        if self.table.field.is_some() && is_loose(data.as_str()) {
+// Draws what a line of a table holds.
+fn draw_data(
+    rt: &HostRuntime,
+    asked: &Job<'_, '_>,
+    table: &Table<'_>,
+    line: &Line<'_>,
+) -> Done<Drawing> {
+    let columns = &table.columns;
+    if let Work::Payload(fields) = asked.work {
+        let row = Row::of(rt.alloc(), columns, line, &fields)?;
+        if let Some(field) = loose(rt.alloc(), columns, line)? {
+            let label = columns.label(rt.alloc(), field)?;
             doubted!(rt, asked.doubts;
-                "the space or quotation mark at the start or end of the field is encoded"
+                "{label}: the space or quotation mark at its start or end is encoded"
             )?;
         }
-        draw(rt, asked, data.as_str().as_bytes())
+        return draw_payload(rt, fields.kind, asked, &row, columns);
     }
+    if table.is_whole {
+        return draw(rt, asked, line.bytes);
+    }
+    let data = table.data(rt.alloc(), line)?;
+    if table.field.is_some() && is_loose(data.as_str()) {
+        doubted!(rt, asked.doubts;
+            "the space or quotation mark at the start or end of the field is encoded"
+        )?;
+    }
+    draw(rt, asked, data.as_str().as_bytes())
 }

@@ -16,6 +16,7 @@ use goqlanis_request::places::place_in;
 use goqlanis_request::shrinking::shrunk;
 use qrcode::QrCode;
 use qrcode_damage::areas::Rectangle;
+use qrcode_sheets::formats::LogoForm;
 use qrcode_sheets::{Inset, Place};
 use std::alloc::Global;
 
@@ -28,7 +29,7 @@ pub(crate) fn read_logo(rt: &HostRuntime, asked: &Job<'_, '_>) -> Done<Option<Lo
         return Ok(None);
     };
     let file = read_file(rt, path, MOST_LOGO)?;
-    Ok(Some(if asked.request.format.row().middle == qrcode_sheets::formats::LogoForm::Pixels {
+    Ok(Some(if asked.request.format.row().middle == LogoForm::Pixels {
         pixels_of(rt, asked.doubts, path, &file)?
     } else {
         element_of(rt, asked.doubts, path, &file)?
@@ -53,7 +54,7 @@ pub(crate) fn draw_with_middle(
     code: &QrCode,
     area: Rectangle,
 ) -> Done<Vec<u8>> {
-    let is_png = request.format.row().middle == qrcode_sheets::formats::LogoForm::Pixels;
+    let is_png = request.format.row().middle == LogoForm::Pixels;
     let spot = Spot {
         alloc,
         request,

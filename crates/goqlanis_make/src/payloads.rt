@@ -1,5 +1,5 @@
-//! Makes the texts of payloads, or explains why one is refused: which option is wrong, and what would
-//! help.
+//! Makes the texts of payloads, or explains why one is refused: which option is wrong, and what
+//! would help.
 
 ghost use Rattle.std.specs.Prelude.{◌≡◌, IfOk, string_bytes};
 ghost use Rattle.qrcode_payloads.specs.Texts.{payload_text};
@@ -17,8 +17,8 @@ use std::alloc::Global;
 
 /// Returns the text of a payload with these fields; messages name those of `columns` by column.
 ///
-/// Errors: `Refused` if the format rejects a field, with the option, what is wrong with it, and what
-/// its help says; `OutOfMemory`.
+/// Errors: `Refused` if the format rejects a field, with the option, what is wrong with it, and
+/// what its help says; `OutOfMemory`.
 pub(crate) fn payload_of<G: FieldSource>(
     alloc: Global,
     kind: Kind,

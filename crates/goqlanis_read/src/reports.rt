@@ -42,9 +42,9 @@ pub(crate) fn other_set(parts: &[Part]) -> Option<CharacterSet> {
     None
 }
 
-/// Reports on what is found in a file: as JSON objects, with the data of decoded codes, or as lines of
-/// text, with a heading for each of several checks; with the name of the file unless it is empty.
-/// The first object is the first of all if it `is_first`.
+/// Reports on what is found in a file: as JSON objects, with the data of decoded codes, or as lines
+/// of text, with a heading for each of several checks; with the name of the file unless it is
+/// empty. The first object is the first of all if it `is_first`.
 ///
 /// Errors: only `AllocError`.
 pub(crate) fn report(
@@ -77,8 +77,8 @@ pub(crate) fn report(
     Ok(text)
 }
 
-// Begins a JSON object on a line of its own, with the name of a file unless it is empty. In an empty
-// text it is the first of all if it `is_first`.
+// Begins a JSON object on a line of its own, with the name of a file unless it is empty. In an
+// empty text it is the first of all if it `is_first`.
 fn begin_object(text: &mut String, file: &str, is_first: bool) -> Result<(), AllocError> {
     let sign = if is_first && text.is_empty() {
         '['
