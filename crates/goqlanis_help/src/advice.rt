@@ -265,10 +265,12 @@ impl Rejected<'_> {
 
     // Returns the word behind `option`; empty if there is none.
     fn behind(&self, option: &str) -> &str {
-        let mut pairs = self.words.iter().zip(self.words.iter().skip(1));
-        pairs
-            .find(|(word, _)| **word == option)
-            .map_or("", |(_, next)| *next)
+        for (word, next) in self.words.iter().zip(self.words.iter().skip(1)) {
+            if *word == option {
+                return next;
+            }
+        }
+        ""
     }
 
     // Explains a word without an option: names the options that the payload needs.
