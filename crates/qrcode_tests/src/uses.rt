@@ -1,4 +1,4 @@
-//! Runs each example of `qrcode_examples` once.
+//! Runs each example of `qrcode_facts` once.
 
 use qrcode::EcLevel::{self, H, L, M, Q};
 use qrcode::QrCode;
@@ -6,12 +6,12 @@ use qrcode::Version::{self, Micro, Normal};
 use qrcode::types::QrResult;
 use qrcode_contents::errors::{Cause, ContentError, Field};
 use qrcode_contents::payment::{Payment, PaymentVersion};
-use qrcode_examples::drawings::{as_chars, as_grey_map, as_half_blocks, as_pairs, as_pic, as_svg};
-use qrcode_examples::label::label_bars;
-use qrcode_examples::payments::payment;
-use qrcode_examples::several::leaflets;
-use qrcode_examples::ticket::ticket_blocks;
-use qrcode_examples::{plain, texts};
+use qrcode_facts::drawings::{as_chars, as_grey_map, as_half_blocks, as_pairs, as_pic, as_svg};
+use qrcode_facts::label::label_bars;
+use qrcode_facts::payments::payment;
+use qrcode_facts::several::leaflets;
+use qrcode_facts::ticket::ticket_blocks;
+use qrcode_facts::{plain, texts};
 use qrcode_reader::read_parts;
 use std::alloc::Global;
 

@@ -12,7 +12,7 @@ use qrcode::render::string::Str;
 use qrcode::render::unicode::Dense1x2;
 use qrcode::render::{Canvas, Pixel, Renderer, fill_rect, pic, svg};
 use qrcode::types::{Color, QrError, QrResult, Version};
-use qrcode_examples::label::Dot;
+use qrcode_facts::label::Dot;
 use qrcode_sheets::svg_path::{Path, PathElement};
 use qrcode_sheets::{eps, escpos, pbm, pdf, pgm, ppm, tspl, xbm, zpl};
 use std::alloc::Global;
