@@ -1,15 +1,21 @@
 """Asks other encoders for symbols: Debian 12's python3-segno (1.4.1), python3-qrcodegen (1.8.0),
 zint (2.11.1) and qrencode (4.1.1). A part of data is ("numeric", bytes), ("eci", number) and so
-on."""
+on; a version of Normal is a number, one of Micro a text such as "M1". Symbols are rows of # and .
+"""
+import itertools
 import subprocess
 import tempfile
 
 import qrcodegen
-from questions import MODES, zint_rows  # noqa: F401 (for those who import this)
+import segno
+from questions import MODES, rows_of, zint_rows
 from segno import consts
 from segno import encoder as segno_encoder
 
 LEVELS = "LMQH"
+NORMAL = [*itertools.product(range(1, 41), LEVELS)]
+MICRO_LEVELS = {1: "L", 2: "LM", 3: "LM", 4: "LMQ"}
+MICRO = [(version, level) for version, levels in MICRO_LEVELS.items() for level in levels]
 Code, Segment = qrcodegen.QrCode, qrcodegen.QrSegment
 GEN_LEVELS = dict(zip(LEVELS, (Code.Ecc.LOW, Code.Ecc.MEDIUM, Code.Ecc.QUARTILE, Code.Ecc.HIGH)))
 SEGNO_LEVELS = dict(zip(LEVELS, (consts.ERROR_LEVEL_L, consts.ERROR_LEVEL_M, consts.ERROR_LEVEL_Q,
@@ -32,15 +38,50 @@ def gen_segment(mode, value):
     return Segment(Segment.Mode.KANJI, found.char_count, list(found.bits))
 
 
+def gen(version, level, parts, mask=-1):
+    """Returns the mask and rows of qrcodegen's symbol."""
+    code = Code.encode_segments([gen_segment(*part) for part in parts], GEN_LEVELS[level], version,
+                                version, mask, False)
+    return code.get_mask(), rows_of(code._modules)
+
+
+def seg(version, level, parts, mask=None):
+    code = segno.make([(value, SEGNO_MODES[mode]) for mode, value in parts], version=version,
+                      error=level, mask=mask, boost_error=False, micro=isinstance(version, str))
+    return rows_of(code.matrix)
+
+
 def with_file(data, command):
-    """Returns the output of a command that is given a file of data."""
+    """Returns the output of a command that is given a file of data as its last word."""
     with tempfile.NamedTemporaryFile() as file:
         file.write(data)
         file.flush()
-        return subprocess.run(command(file.name), capture_output=True, check=True).stdout.decode()
+        words = [*command, file.name]
+        return subprocess.run(words, capture_output=True, check=True).stdout.decode()
 
 
-def qrencode_rows(command, data):
-    """Returns the rows of # and . that qrencode draws of data, by a command that writes ASCII."""
-    text = subprocess.run(command, input=data, capture_output=True, check=True).stdout.decode()
+def zint_words(version, level, *flags):
+    kind, number = ("MICROQR", version[1:]) if isinstance(version, str) else ("QRCODE", version)
+    return ["zint", "-b", kind, f"--vers={number}", f"--secure={LEVELS.index(level) + 1}", *flags]
+
+
+def zint(version, level, data, *flags):
+    """Returns zint's symbol of UTF-8 text, or of bytes with the flag --binary."""
+    return zint_rows(with_file(data, [*zint_words(version, level, *flags), "--dump", "-i"]))
+
+
+def qrencode_words(version, level, *flags):
+    number, micro = (version[1:], ["-M"]) if isinstance(version, str) else (str(version), [])
+    return ["qrencode", "-v", number, "-l", level, *"-t ASCII -m 0 -o -".split(), *micro, *flags]
+
+
+def qrencode_rows(text):
+    """Returns the rows of a symbol that qrencode writes as ASCII, without a quiet zone."""
     return [line[::2] for line in text.replace(" ", ".").split("\n") if line]
+
+
+def qrencode(version, level, data, *flags):
+    """Returns qrencode's symbol, whose version may be larger than `version`."""
+    words = qrencode_words(version, level, *flags)
+    ran = subprocess.run(words, input=data, capture_output=True, check=True)
+    return qrencode_rows(ran.stdout.decode())

@@ -45,10 +45,16 @@ def pgm(rows, zone=0):
     return b"P5 %d %d 255\n" % (4 * len(rows[0]), 4 * len(rows)) + pixels
 
 
+def build(program, source):
+    """Builds a program of C++ that calls zxing's library."""
+    words = ["g++", "-std=c++17", "-O2", "-o", program, source, "-lZXing"]
+    subprocess.run(words, check=True)
+
+
 def zxing(squares, folder, *words):
     """Returns the lines that zxing.cpp writes for lines of squares."""
-    program, source = folder / "zxing", Path(__file__).with_name("zxing.cpp")
-    subprocess.run(["g++", "-std=c++17", "-O2", "-o", program, source, "-lZXing"], check=True)
+    program = folder / "zxing"
+    build(program, Path(__file__).with_name("zxing.cpp"))
     given = "".join(f"{it}\n" for it in squares)
     ran = subprocess.run([program, *words], input=given, capture_output=True, text=True, check=True)
     return ran.stdout.splitlines()
@@ -68,18 +74,29 @@ def by_zxing(path, *words):
 
 
 def table(head, rows):
-    """Returns a Markdown table, each row a name and numbers, with the sums of these at its end."""
+    """Returns a Markdown table: of each row its name, how many answers there are, and how many of
+    them are true, and the sums of these at its end. An answer has a truth for each program."""
+    rows = [(name, len(answers), *map(sum, zip(*answers))) for name, answers in rows]
     rows = [*rows, ("all", *map(sum, [*zip(*rows)][1:]))]
     lines = [f"| {name} | {' | '.join(f'{it:,}' for it in counts)} |" for name, *counts in rows]
     return "\n".join([head, "|" + "---|" * len(rows[0]), *lines, ""])
 
 
-def keep(text, found, words):
-    """Prints what was found and stores it, or with `check` compares it; returns the status."""
+def store(files):
+    """Writes files of texts, or with `check` compares them; returns whether any is another."""
+    if sys.argv[-1] != "check":
+        for path, text in files.items():
+            path.write_text(text, encoding="utf-8")
+        return False
+    others = [path.name for path, text in files.items() if path.read_text("utf-8") != text]
+    print("the same" if not others else f"OTHERS than in {' and '.join(others)}")
+    return bool(others)
+
+
+def keep(found, name="found"):
+    """Prints what a function finds and stores it beside the script, or with `check` compares it."""
+    if sys.argv[1:] not in ([], ["check"]):
+        sys.exit(sys.modules["__main__"].__doc__)
+    text = found()
     print(text, end="")
-    if words == ["check"]:
-        is_same = text == found.read_text()
-        print("the same" if is_same else f"OTHERS than in {found.name}")
-        return int(not is_same)
-    found.write_text(text)
-    return 0
+    sys.exit(store({Path(sys.argv[0]).with_name(name): text}))
