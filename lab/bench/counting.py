@@ -18,8 +18,8 @@ from pathlib import Path
 HERE = Path(__file__).resolve().parent
 TOP = HERE.parents[1]
 sys.dont_write_bytecode = True
-sys.path += [str(TOP / it) for it in ("tools", "bindings/python", "evidence/judge",
-                                      "evidence/program")]
+sys.path += [str(TOP / it) for it in ("lab/others", "tools")]
+import shown  # noqa: E402, F401 (which finds the others)
 from room import file_of  # noqa: E402
 from sums import CRATES, all_below  # noqa: E402
 

@@ -3,14 +3,13 @@ zint (2.11.1) and qrencode (4.1.1). A part of data is ("numeric", bytes), ("eci"
 on; a version of Normal is a number, one of Micro a text such as "M1". Symbols are rows of # and .
 """
 import itertools
-import subprocess
-import tempfile
 
 import qrcodegen
 import segno
 from questions import MODES, rows_of, zint_rows
 from segno import consts
 from segno import encoder as segno_encoder
+from shown import file_with, output
 
 LEVELS = "LMQH"
 NORMAL = [*itertools.product(range(1, 41), LEVELS)]
@@ -53,11 +52,8 @@ def seg(version, level, parts, mask=None):
 
 def with_file(data, command):
     """Returns the output of a command that is given a file of data as its last word."""
-    with tempfile.NamedTemporaryFile() as file:
-        file.write(data)
-        file.flush()
-        words = [*command, file.name]
-        return subprocess.run(words, capture_output=True, check=True).stdout.decode()
+    with file_with(data) as path:
+        return output(*command, path).decode()
 
 
 def zint_words(version, level, *flags):
@@ -82,6 +78,4 @@ def qrencode_rows(text):
 
 def qrencode(version, level, data, *flags):
     """Returns qrencode's symbol, whose version may be larger than `version`."""
-    words = qrencode_words(version, level, *flags)
-    ran = subprocess.run(words, input=data, capture_output=True, check=True)
-    return qrencode_rows(ran.stdout.decode())
+    return qrencode_rows(output(*qrencode_words(version, level, *flags), data=data).decode())

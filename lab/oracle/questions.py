@@ -1,5 +1,4 @@
-"""The data and checksums of evidence/answers: data that looks random, checksums of
-squares."""
+"""The data of evidence/answers, which looks random; its bits; and rows of modules."""
 import zlib
 
 MODES = ("numeric", "alphanumeric", "byte", "kanji")
@@ -26,6 +25,15 @@ def content(mode, count):
             "kanji": pair(number),
         }[mode]
     return bytes(found)
+
+
+def data_bits(mode, count):
+    return {
+        "numeric": 10 * (count // 3) + (0, 4, 7)[count % 3],
+        "alphanumeric": 11 * (count // 2) + 6 * (count % 2),
+        "byte": 8 * count,
+        "kanji": 13 * count,
+    }[mode]
 
 
 def rows_of(matrix):

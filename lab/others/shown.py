@@ -2,14 +2,18 @@
 zxing and zbar read, by g++ and Debian 12's packages libzxing-dev and zxing-cpp-tools (1.4.0) and
 zbar-tools (0.23.92). It finds the modules of evidence/program, evidence/judge and lab/oracle.
 """
+import contextlib
+import operator
 import os
 import re
 import subprocess
 import sys
+import tempfile
 from pathlib import Path
 
 ROOT = Path(__file__).resolve().parents[2]
-sys.path[:0] = [str(ROOT / it) for it in ("evidence/program", "evidence/judge", "lab/oracle")]
+sys.path[:0] = [str(ROOT / it) for it in ("evidence/program", "evidence/judge", "lab/oracle",
+                                        "bindings/python")]
 # The program that `rt ci goqlanis` left in out/, or the one that GOQLANIS names.
 PROGRAM = os.path.abspath(os.environ.get("GOQLANIS", ROOT / "crates/goqlanis/out/goqlanis"))
 
@@ -20,49 +24,57 @@ def run(*words, data=None, may_fail=False):
     return ran.stdout if may_fail or ran.returncode == 0 else b""
 
 
+def output(*words, data=None):
+    """Returns the output of a command that must not fail."""
+    return subprocess.run(words, input=data, capture_output=True, check=True).stdout
+
+
 def drawn(*words):
-    return subprocess.run([PROGRAM, *words], capture_output=True, check=True).stdout
+    return output(PROGRAM, *words)
 
 
 def pixels(picture, kind):
     """Returns the pixels of a picture as ImageMagick reads them: gray, rgb or rgba."""
-    words = ["convert", picture, "-depth", "8", f"{kind}:-"]
-    return subprocess.run(words, capture_output=True, check=True).stdout
+    return output("convert", picture, "-depth", "8", f"{kind}:-")
 
 
-def line_of(rows):
-    """Returns rows of modules as a line: the side, and hexadecimal digits, where 1 is dark."""
-    bits = "".join("01"[bool(module)] for row in rows for module in row)
-    bits += "0" * (-len(bits) % 4)
-    return f"{len(rows)} {int(bits, 2):0{len(bits) // 4}x}"
-
-
-def pgm(rows, zone=0):
-    """Returns a PGM file of rows of modules in a quiet zone, at four pixels a module."""
+def pgm(rows, zone=4, scale=4):
+    """Returns a PGM file of rows of modules in a quiet zone."""
     wide = [[0] * (len(rows[0]) + 2 * zone)] * zone
     rows = [*wide, *([0] * zone + list(row) + [0] * zone for row in rows), *wide]
-    pixels = b"".join(bytes(0 if it else 255 for it in row for _ in range(4)) * 4 for row in rows)
-    return b"P5 %d %d 255\n" % (4 * len(rows[0]), 4 * len(rows)) + pixels
+    lines = (bytes(0 if it else 255 for it in row for _ in range(scale)) for row in rows)
+    sides = scale * len(rows[0]), scale * len(rows)
+    return b"P5 %d %d 255\n" % sides + b"".join(line * scale for line in lines)
+
+
+@contextlib.contextmanager
+def file_with(data):
+    """Makes a temporary file; gives its path."""
+    with tempfile.NamedTemporaryFile() as it:
+        it.write(data)
+        it.flush()
+        yield it.name
 
 
 def build(program, source):
     """Builds a program of C++ that calls zxing's library."""
-    words = ["g++", "-std=c++17", "-O2", "-o", program, source, "-lZXing"]
-    subprocess.run(words, check=True)
+    output("g++", "-std=c++17", "-O2", "-o", program, source, "-lZXing")
 
 
-def zxing(squares, folder, *words):
-    """Returns the lines that zxing.cpp writes for lines of squares."""
-    program = folder / "zxing"
-    build(program, Path(__file__).with_name("zxing.cpp"))
-    given = "".join(f"{it}\n" for it in squares)
-    ran = subprocess.run([program, *words], input=given, capture_output=True, text=True, check=True)
-    return ran.stdout.splitlines()
+def zxing(squares, *words):
+    """Returns the lines that zxing.cpp writes for squares, which are rows of modules."""
+    given = b"".join(map(pgm, squares))
+    with tempfile.TemporaryDirectory() as folder:
+        build(f"{folder}/zxing", Path(__file__).with_name("zxing.cpp"))
+        return output(f"{folder}/zxing", *words, data=given).decode().splitlines()
 
 
-def zbar(path):
-    """Returns what zbar reads of a picture, as bytes, or None."""
-    words = ["zbarimg", "-q", "--raw", "--oneshot", "-Sdisable", "-Sqrcode.enable", path]
+def zbar(picture):
+    """Returns what zbar reads of a picture (its path, or its bytes), as bytes, or None."""
+    if isinstance(picture, bytes):
+        with file_with(picture) as path:
+            return zbar(path)
+    words = ["zbarimg", "-q", "--raw", "--oneshot", "-Sdisable", "-Sqrcode.enable", picture]
     ran = subprocess.run(words, capture_output=True, check=False)
     return ran.stdout.removesuffix(b"\n") if ran.returncode == 0 else None
 
@@ -71,6 +83,23 @@ def by_zxing(path, *words):
     """Returns the texts that ZXingReader prints of a picture."""
     said = run("ZXingReader", *words, path, may_fail=True).decode(errors="replace")
     return re.findall(r'(?m)^Text: +"(.*)"$', said)
+
+
+def opened(folder, kind, command, many, are_alike=operator.eq):
+    """Returns how many drawings of a kind a command shows as the pixels of the PNG file, and how
+    many of these zbar reads; the command makes a picture {shown}.png of a {file}."""
+    file, wanted, made = folder / f"file.{kind}", folder / "wanted.png", folder / "made.png"
+    same = read = 0
+    for words in many:
+        file.write_bytes(drawn("-f", kind, *words))
+        wanted.write_bytes(drawn("-f", "png", *words))
+        command_line = [it.format(file=file, shown=made.with_suffix("")) for it in command]
+        ran = subprocess.run(command_line, capture_output=True, text=True, check=True)
+        said = ran.stderr.replace("warning: ICC support is not available\n", "")
+        assert not said, said
+        same += are_alike(pixels(made, "rgb"), pixels(wanted, "rgb"))
+        read += zbar(made) == words[-1].encode()
+    return same, read
 
 
 def table(head, rows):

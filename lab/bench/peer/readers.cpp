@@ -1,13 +1,11 @@
-// readers zxing|zbar COUNT SCALE: has a reader read a square COUNT times, and fails if it reads
-// nothing. The modules stand on standard input, 0 and 1 row by row; the reader is given a clean
-// picture of them with a quiet zone of four modules, SCALE pixels for each module.
+// readers zxing|zbar COUNT: has a reader read the PGM file of a square picture on standard input
+// COUNT times, and fails if it reads nothing.
 #include <zbar.h>
 
 #define ZX_USE_UTF8
 #include <ZXing/DecodeHints.h>
 #include <ZXing/ImageView.h>
 #include <ZXing/ReadBarcode.h>
-#include <cmath>
 #include <iostream>
 #include <string>
 #include <vector>
@@ -33,17 +31,13 @@ static bool by_zbar(const std::vector<uint8_t> &pixels, int side)
 
 int main(int argc, char **argv)
 {
-    if (argc != 4)
+    std::string kind;
+    int across, down, most;
+    if (argc != 3 || !(std::cin >> kind >> across >> down >> most))
         return 2;
-    std::string modules;
-    std::cin >> modules;
-    int side = std::lround(std::sqrt(modules.size())), scale = std::stoi(argv[3]);
-    int across = (side + 8) * scale;
-    std::vector<uint8_t> pixels(across * across, 255);
-    for (int y = 0; y < side * scale; y++)
-        for (int x = 0; x < side * scale; x++)
-            if (modules[y / scale * side + x / scale] == '1')
-                pixels[(y + 4 * scale) * across + x + 4 * scale] = 0;
+    std::vector<uint8_t> pixels(across * across);
+    std::cin.get();
+    std::cin.read((char *)pixels.data(), pixels.size());
     bool is_zbar = argv[1] == std::string("zbar"), is_read = true;
     for (int i = 0; i < std::stoi(argv[2]); i++)
         is_read &= is_zbar ? by_zbar(pixels, across) : by_zxing(pixels, across);
