@@ -17,10 +17,8 @@ MICRO_LEVELS = {1: "L", 2: "LM", 3: "LM", 4: "LMQ"}
 MICRO = [(version, level) for version, levels in MICRO_LEVELS.items() for level in levels]
 Code, Segment = qrcodegen.QrCode, qrcodegen.QrSegment
 GEN_LEVELS = dict(zip(LEVELS, (Code.Ecc.LOW, Code.Ecc.MEDIUM, Code.Ecc.QUARTILE, Code.Ecc.HIGH)))
-SEGNO_LEVELS = dict(zip(LEVELS, (consts.ERROR_LEVEL_L, consts.ERROR_LEVEL_M, consts.ERROR_LEVEL_Q,
-                                 consts.ERROR_LEVEL_H)))
-SEGNO_MODES = dict(zip(MODES, (consts.MODE_NUMERIC, consts.MODE_ALPHANUMERIC, consts.MODE_BYTE,
-                               consts.MODE_KANJI)))
+SEGNO_LEVELS = {level: getattr(consts, f"ERROR_LEVEL_{level}") for level in LEVELS}
+SEGNO_MODES = {mode: getattr(consts, f"MODE_{mode.upper()}") for mode in MODES}
 
 
 def gen_segment(mode, value):
