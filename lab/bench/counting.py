@@ -153,12 +153,6 @@ def squares(folder):
     return found
 
 
-@functools.cache
-def png_file(folder):
-    return library(folder).encode(SYMBOLS["40"], "M").png(8)
-
-
-@functools.cache
 def page(folder, name):
     """Returns a PBM file of 480 by 480 pixels: a code, and what surrounds it."""
     code = library(folder).encode(b"beside", "M", 1).matrix

@@ -49,7 +49,6 @@ def pgm(rows, zone=4, scale=4):
 
 @contextlib.contextmanager
 def file_with(data):
-    """Makes a temporary file; gives its path."""
     with tempfile.NamedTemporaryFile() as it:
         it.write(data)
         it.flush()
@@ -57,7 +56,6 @@ def file_with(data):
 
 
 def build(program, source):
-    """Builds a program of C++ that calls zxing's library."""
     output("g++", "-std=c++17", "-O2", "-o", program, source, "-lZXing")
 
 
@@ -125,7 +123,7 @@ def store(files):
 def keep(found, name="found"):
     """Prints what a function finds and stores it beside the script, or with `check` compares it."""
     if sys.argv[1:] not in ([], ["check"]):
-        sys.exit(sys.modules["__main__"].__doc__)
+        sys.exit(f"usage: {sys.argv[0]} [check]")
     text = found()
     print(text, end="")
     sys.exit(store({Path(sys.argv[0]).with_name(name): text}))
