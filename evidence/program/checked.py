@@ -15,21 +15,13 @@ from tables import CHARACTERS
 SIXTHS = {"numeric": 20, "alphanumeric": 33, "byte": 48, "kanji": 39}
 
 
-def corner(square, shape, left, top, count):
-    """Returns the number of wrong modules of a finder pattern and its separator."""
-    width, wrong = shape.width, 0
-    for y in range(top - 1, top + 8):
-        for x in range(left - 1, left + 8):
-            if 0 <= x < width and 0 <= y < width:
-                ring = max(abs(x - left - 3), abs(y - top - 3))
-                wrong += square[y * width + x] != (ring in (0, 1, 3))
-    return wrong
-
-
 def finder(square, shape):
-    far = shape.width - 7
-    places = [(0, 0)] if shape.is_micro else [(0, 0), (far, 0), (0, far)]
-    return sum(corner(square, shape, left, top, 7) for left, top in places)
+    """Returns the number of wrong modules of finder patterns and their separators."""
+    width, far = shape.width, shape.width - 4
+    middles = [(3, 3)] if shape.is_micro else [(3, 3), (3, far), (far, 3)]
+    return sum(square[(i + y) * width + j + x] != (max(abs(x), abs(y)) in (0, 1, 3))
+               for i, j in middles for y in range(-4, 5) for x in range(-4, 5)
+               if 0 <= i + y < width and 0 <= j + x < width)
 
 
 def alignment(square, shape):
@@ -113,10 +105,7 @@ def ending(shape, bits, used):
 
 
 def is_utf8(data):
-    try:
-        return bool(data.decode()) or True
-    except UnicodeDecodeError:
-        return False
+    return data.decode(errors="ignore").encode() == data
 
 
 def guesses(parts):

@@ -55,13 +55,8 @@ def rectangles(path):
             else:
                 y = numbers[0] + (y if letter == "v" else 0)
             corners.append((x, y))
-        yield box(corners)
-
-
-def box(corners):
-    left, top = (min(it[axis] for it in corners) for axis in (0, 1))
-    right, bottom = (max(it[axis] for it in corners) for axis in (0, 1))
-    return left, top, right - left, bottom - top
+        across, down = zip(*corners)
+        yield min(across), min(down), max(across) - min(across), max(down) - min(down)
 
 
 def svg_cells(text, side):
@@ -78,10 +73,10 @@ def svg_cells(text, side):
         elif name == "/svg":
             units.pop()
         elif given["fill"] != "none":
-            found = [box([(0, 0), (int(given["width"]), int(given["height"]))])] if name == "rect" \
+            found = [(0, 0, int(given["width"]), int(given["height"]))] if name == "rect" \
                 else rectangles(given["d"])
-            for found_box in found:
-                fill(cells, [round(it * units[-1], 6) for it in found_box], rgb(given["fill"]))
+            for place in found:
+                fill(cells, [round(it * units[-1], 6) for it in place], rgb(given["fill"]))
     return cells if sides and set(sides) == {side} else None
 
 

@@ -13,6 +13,7 @@ import tempfile
 from pathlib import Path
 from typing import NamedTuple
 
+import labels
 import png  # noqa: F401 (files)
 
 HERE = Path(__file__).resolve().parent
@@ -41,11 +42,8 @@ def file_of(rows, zone, scale):
 def modules_of(file):
     """Returns the rows of a binary PBM file, 1 for dark."""
     _, sides, bits = file.split(b"\n", 2)
-    across = int(sides.split()[0])
-    step = (across + 7) // 8
-    lines = (f"{int.from_bytes(bits[at:at + step], 'big'):0{8 * step}b}"
-             for at in range(0, len(bits), step))
-    return [[int(it) for it in line[:across]] for line in lines]
+    across, down = map(int, sides.split())
+    return [row[:across] for row in labels.rows_of(bits, (across + 7) // 8, down)]
 
 
 def plain(rows):
@@ -208,13 +206,8 @@ def in_terminal(program, words, given=b"", **env):
     if child == 0:
         os.execve(program, [program, *words], {"PATH": "/usr/bin:/bin", **env})
     os.write(terminal, given)
-    while True:
-        try:
-            part = os.read(terminal, 65536)
-        except OSError:
-            break
-        if not part:
-            break
-        shown += part
+    with contextlib.suppress(OSError):
+        while part := os.read(terminal, 65536):
+            shown += part
     os.close(terminal)
     return bytes(shown).replace(b"\r\n", b"\n"), os.waitstatus_to_exitcode(os.waitpid(child, 0)[1])
