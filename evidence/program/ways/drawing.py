@@ -169,11 +169,10 @@ def the_cross_of_a_bill(program):
     size = round(7 * side / 46)
     size += (side - size) % 2
     start, area = (len(rows) - size) // 2, 8 * (-(-7 * side // 8 // 46) | 1)
-    around = range((len(rows) - area) // 2, (len(rows) + area) // 2)
+    around = slice((len(rows) - area) // 2, (len(rows) + area) // 2)
     units = [(2 * it + 1) * 252 / size / 2 for it in range(size)]
-    for y in around:
-        for x in around:
-            rows[y][x] = (255, 255, 255, 255)
+    for row in rows[around]:
+        row[around] = [(255,) * 4] * area
     for y, v in enumerate(units):
         for x, u in enumerate(units):
             bars = 105 < u < 147 and 56 < v < 196 or 56 < u < 196 and 105 < v < 147

@@ -14,17 +14,9 @@ from room import FILES, SYMBOLS, figures, file_of, plain, run, slanted, square, 
 
 EXCHANGED = ", inverted"
 NOT_HEADERS = ("segment: ", "goqlanis: warning: ")
-POSITIONS = (
-    ("upright", lambda rows: rows),
-    ("rotated left", lambda rows: [list(it) for it in zip(*rows)][::-1]),
-    ("upside down", lambda rows: [it[::-1] for it in rows[::-1]]),
-    ("rotated right", lambda rows: [list(it) for it in zip(*rows[::-1])]),
-    ("mirrored", lambda rows: [it[::-1] for it in rows]),
-    ("flipped", lambda rows: rows[::-1]),
-    ("transposed", lambda rows: [list(it) for it in zip(*rows)]),
-    ("antitransposed",
-     lambda rows: [list(it)[::-1] for it in zip(*rows)][::-1]),
-)
+# By their numbers in crowds.turned.
+POSITIONS = ("upright", "mirrored", "flipped", "upside down", "transposed", "rotated left",
+             "rotated right", "antitransposed")
 
 
 def checks_are_those_of_the_judge(program):
@@ -103,8 +95,8 @@ def headers_are_read_in_all_positions(program):
     with_headers = [it for it in squares() if it[1].split(": ")[0].count(",") > 1]
     for rows, words in with_headers[::3]:
         (_, _, *headers), data = words.split(": ")[0].split(", "), words.split(": ")[1]
-        for position, turned in POSITIONS:
-            plain = turned(rows)
+        for number, position in enumerate(POSITIONS):
+            plain = crowds.turned(rows, number)
             other = [[1 - module for module in it] for it in plain]
             *head, body = file_of(plain, 4, 8).split(b"\n", 2)
             negative = b"\n".join([*head, bytes(it ^ 255 for it in body)])

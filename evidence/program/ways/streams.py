@@ -56,9 +56,11 @@ def a_closed_pipe_ends_a_run_quietly(program):
     return all((it.returncode, it.stderr) == (1, b"") for it in ran)
 
 
+PIPES = {"stdin": subprocess.PIPE, "stdout": subprocess.PIPE}
+
+
 def lines_are_drawn_as_they_come(program):
-    pipes = {"stdin": subprocess.PIPE, "stdout": subprocess.PIPE}
-    with subprocess.Popen([program, "--lines"], **pipes) as ran:
+    with subprocess.Popen([program, "--lines"], **PIPES) as ran:
         wanted = [written(program, it) for it in ("one", "two")]
         drawn = []
         for line, drawing in zip((b"one\n", b"two\r\n"), wanted):
@@ -71,8 +73,7 @@ def lines_are_drawn_as_they_come(program):
 
 def pages_are_written_as_their_lines_come(program):
     """A document's first page comes before the second line, and its end after the input."""
-    pipes = {"stdin": subprocess.PIPE, "stdout": subprocess.PIPE}
-    with subprocess.Popen([program, "--lines", "-f", "pdf"], **pipes) as ran:
+    with subprocess.Popen([program, "--lines", "-f", "pdf"], **PIPES) as ran:
         for line in (b"one\n", b"two\n"):
             ran.stdin.write(line)
             ran.stdin.flush()
