@@ -1,12 +1,13 @@
 -- Squares of modules in whole pixels: what their pixels and their grids show.
-use Rattle.std.proofs.Common.{◌≡◌, ◌*◌, ℕ, ◌+◌, ◌-◌, ◌/◌, ◌%◌, ◌<◌, ◌≤◌, zero, suc, inl, inr, Bool, true, false, not, ap₂, refl, sym, subst, ◌∙◌, arith}
+use Rattle.std.proofs.Common.{◌≡◌, ◌*◌, ℕ, ◌+◌, ◌-◌, ◌/◌, ◌%◌, ◌<◌, ◌≤◌, inl, inr, Bool, true, false, not, ap₂, refl, sym, subst, ◌∙◌, arith}
 use Rattle.std.proofs.Math.Nat.{mul-le-mul_right}
 use Rattle.std.proofs.lemmas.Nat.{div-add-mod', mod_below, div_below}
 use Rattle.std.proofs.lemmas.Bool.{cases_lt}
+use Rattle.std.proofs.lemmas.Bool.Decides.{nat_tests}
 use Rattle.qrcode_render.specs.Bitmap.{Bitmap}
 use Rattle.qrcode_render.specs.Layout.{layout}
 use Rattle.qrcode_render.specs.Picture.{is_dark_pixel}
-use Rattle.qrcode_scan.specs.Grids.{colours_at}
+use Rattle.qrcode_scan.specs.Grids.{colours_at, column_at, row_at}
 use Rattle.qrcode_scan.specs.Squares.{mark_at}
 use Rattle.qrcode_scan.specs.Wholes.{BeginsAt, HasFinder, HasPatterns, IsGridAt, IsGridOf, IsWholeIn, Whole, corner_start, count_of, dark_in, finder_dark, light_row, marked}
 use Rattle.qrcode_scan.specs.declared.grids.Grid.{Grid}
@@ -39,8 +40,7 @@ centre_seen b w g i j is at left top =
 
 -- a finder pattern in a corner lies in the square
 corner_fits : (is_last : Bool) (count : ℕ) → 7 ≤ count → corner_start is_last count + 7 ≤ count
-corner_fits true count some = omega (arith, some)
-corner_fits false count some = omega (arith, some)
+corner_fits is_last count some = grind (arith, some)
 
 corner_inside : (is_last : Bool) (w : Whole) (i : ℕ) → i < 7 → corner_start is_last (count_of w) + i < count_of w
 corner_inside is_last w i low = let fits = corner_fits is_last (count_of w) (omega arith) in omega (arith, fits, low)
@@ -67,92 +67,58 @@ patterned b w g is at = record {
 pub sampled_whole : (b : Bitmap) (w : Whole) (g : Grid) → IsWholeIn b w → IsGridOf w g → colours_at b g ≡ w.modules
 sampled_whole b w g is at = sampled_is b g (count_of w) w.modules at.count is.square (λ i j left top. centre_seen b w g i j is at left top)
 
--- a pixel of the finder pattern in the corner
-ring_pixel : (b : Bitmap) (w : Whole) (i j x y : ℕ) → IsWholeIn b w → i < 7 → j < 7 → x < w.scale → y < w.scale
-    → mark_at b (w.left + ((corner_start w.is_right (count_of w) + i) * w.scale + x)) (w.top + ((corner_start w.is_lower (count_of w) + j) * w.scale + y)) ≡ finder_dark i j
-ring_pixel b w i j x y is left top inside low =
+-- a pixel of the finder pattern in the corner, whose second module begins in column x and row y
+ring_at : (b : Bitmap) (w : Whole) (x y i j p q k l : ℕ) → BeginsAt b w x y → i < 7 → j < 7 → p < w.scale → q < w.scale
+    → k + w.scale ≡ x + (i * w.scale + p) → l + w.scale ≡ y + (j * w.scale + q) → mark_at b k l ≡ finder_dark i j
+ring_at b w x y i j p q k l at left top inside low across down =
     let r = corner_start w.is_right (count_of w) in
-    let l = corner_start w.is_lower (count_of w) in
-    seen_module b w (r + i) (l + j) x y is (corner_inside w.is_right w i left) (corner_inside w.is_lower w j top) inside low ∙ is.finders.corner i j left top
-
--- pixels by the modules that they belong to, where the second module begins at x
-at_first : (left c scale x : ℕ) → left + (c * scale + scale) ≡ x → x ≡ left + ((c + 1) * scale + 0)
-at_first left c scale x is = omega (arith, is)
-
-at_last : (left c scale x : ℕ) → 1 ≤ scale → left + (c * scale + scale) ≡ x → x - 1 ≡ left + ((c + 0) * scale + (scale - 1))
-at_last left c scale x some is = omega (arith, some, is)
-
-at_run : (left c scale x k q r : ℕ) → left + (c * scale + scale) ≡ x → q * scale + r ≡ k → x + k ≡ left + ((c + (1 + q)) * scale + r)
-at_run left c scale x k q r is place = omega (arith, is, place)
-
-at_end : (left c scale x : ℕ) → left + (c * scale + scale) ≡ x → x + 5 * scale ≡ left + ((c + 6) * scale + 0)
-at_end left c scale x is = omega (arith, is)
-
-at_module : (left c scale x i half : ℕ) → left + (c * scale + scale) ≡ x + scale → x + ((0 + i) * scale + half) ≡ left + ((c + i) * scale + half)
-at_module left c scale x i half is = omega (arith, is)
+    let s = corner_start w.is_lower (count_of w) in
+    let column : k ≡ w.left + ((r + i) * w.scale + p) = omega (arith, across, at.column) in
+    let row : l ≡ w.top + ((s + j) * w.scale + q) = omega (arith, down, at.row) in
+    ap₂ (mark_at b) column row
+    ∙ seen_module b w (r + i) (s + j) p q at.whole (corner_inside w.is_right w i left) (corner_inside w.is_lower w j top) inside low ∙ at.whole.finders.corner i j left top
 
 end_inside : (left c count scale x whole : ℕ) → 1 ≤ scale → c + 7 ≤ count → left + count * scale ≤ whole → left + (c * scale + scale) ≡ x → x + 5 * scale < whole
 end_inside left c count scale x whole some fits inside is =
     let all = mul-le-mul_right scale fits in
     omega (arith, some, all, inside, is)
 
--- the first light pixel of the pattern, and the dark ones before it and above it
-pub ring_light : (b : Bitmap) (w : Whole) (x y : ℕ) → BeginsAt b w x y → mark_at b x y ≡ false
-ring_light b w x y at =
-    let some = at.whole.at_least in
-    ap₂ (mark_at b) (at_first w.left (corner_start w.is_right (count_of w)) w.scale x at.column) (at_first w.top (corner_start w.is_lower (count_of w)) w.scale y at.row)
-    ∙ ring_pixel b w 1 1 0 0 at.whole (omega arith) (omega arith) some some
-
 pub ring_inside : (b : Bitmap) (w : Whole) (x y : ℕ) → BeginsAt b w x y → (1 ≤ w.scale) × (w.scale ≤ x) × (w.scale ≤ y)
-ring_inside b w x y at =
-    let across = at.column in
-    let down = at.row in
-    (at.whole.at_least, omega (arith, across), omega (arith, down))
+ring_inside b w x y at = (at.whole.at_least, omega (arith, at.column), omega (arith, at.row))
 
-pub ring_before : (b : Bitmap) (w : Whole) (x y : ℕ) → BeginsAt b w x y → mark_at b (x - 1) y ≡ true
-ring_before b w x y at =
-    let some = at.whole.at_least in
-    ap₂ (mark_at b) (at_last w.left (corner_start w.is_right (count_of w)) w.scale x some at.column) (at_first w.top (corner_start w.is_lower (count_of w)) w.scale y at.row)
-    ∙ ring_pixel b w 0 1 (w.scale - 1) 0 at.whole (omega arith) (omega arith) (omega (arith, some)) some
-
-pub ring_above : (b : Bitmap) (w : Whole) (x y : ℕ) → BeginsAt b w x y → mark_at b x (y - 1) ≡ true
-ring_above b w x y at =
-    let some = at.whole.at_least in
-    ap₂ (mark_at b) (at_first w.left (corner_start w.is_right (count_of w)) w.scale x at.column) (at_last w.top (corner_start w.is_lower (count_of w)) w.scale y some at.row)
-    ∙ ring_pixel b w 1 0 0 (w.scale - 1) at.whole (omega arith) (omega arith) some (omega (arith, some))
-
+-- the first light pixel of the pattern, and the dark ones before it and above it
 pub first_light : (b : Bitmap) (w : Whole) (x y : ℕ) → BeginsAt b w x y
     → (0 < x) × (0 < y) × (mark_at b x y ≡ false) × (mark_at b (x - 1) y ≡ true) × (mark_at b x (y - 1) ≡ true)
 first_light b w x y at =
+    let s = w.scale in
     let inside = ring_inside b w x y at in
-    (omega (arith, inside.0, inside.1), omega (arith, inside.0, inside.2), ring_light b w x y at, ring_before b w x y at, ring_above b w x y at)
+    let some = inside.0 in
+    let last : s - 1 < s = omega (arith, some) in (
+      omega (arith, inside.0, inside.1),
+      omega (arith, inside.0, inside.2),
+      ring_at b w x y 1 1 0 0 x y at (omega arith) (omega arith) some some (omega arith) (omega arith),
+      ring_at b w x y 0 1 (s - 1) 0 (x - 1) y at (omega arith) (omega arith) last some (omega (arith, inside.0, inside.1)) (omega arith),
+      ring_at b w x y 1 0 0 (s - 1) x (y - 1) at (omega arith) (omega arith) some last (omega arith) (omega (arith, inside.0, inside.2)),
+    )
 
 -- the second row of a finder pattern has five light modules
 second_row : (i : ℕ) → i < 5 → finder_dark (1 + i) 1 ≡ false
-second_row zero low = refl
-second_row (suc zero) low = refl
-second_row (suc (suc zero)) low = refl
-second_row (suc (suc (suc zero))) low = refl
-second_row (suc (suc (suc (suc zero)))) low = refl
-second_row (suc (suc (suc (suc (suc n))))) low = absurd (omega (arith, low))
+second_row i low = grind (arith, nat_tests, low)
 
 -- so there are five modules of light pixels, and then a dark one in the picture
 ring_row : (b : Bitmap) (w : Whole) (x y k : ℕ) → BeginsAt b w x y → k < 5 * w.scale → mark_at b (x + k) y ≡ false
 ring_row b w x y k at inside =
     let some = at.whole.at_least in
     let low : k / w.scale < 5 = div_below k w.scale 5 some inside in
-    ap₂ (mark_at b) (at_run w.left (corner_start w.is_right (count_of w)) w.scale x k (k / w.scale) (k % w.scale) at.column (div-add-mod' k w.scale))
-    (at_first w.top (corner_start w.is_lower (count_of w)) w.scale y at.row)
-    ∙ ring_pixel b w (1 + k / w.scale) 1 (k % w.scale) 0 at.whole (omega (arith, low)) (omega arith) (mod_below k w.scale some) some
+    ring_at b w x y (1 + k / w.scale) 1 (k % w.scale) 0 (x + k) y at (omega (arith, low)) (omega arith) (mod_below k w.scale some) some
+    (omega (arith, div-add-mod' k w.scale)) (omega arith)
     ∙ second_row (k / w.scale) low
 
 ring_end : (b : Bitmap) (w : Whole) (x y : ℕ) → BeginsAt b w x y → (x + 5 * w.scale < b.across) × (mark_at b (x + 5 * w.scale) y ≡ true)
 ring_end b w x y at =
-    let some = at.whole.at_least in
-    let c = corner_start w.is_right (count_of w) in (
-      end_inside w.left c (count_of w) w.scale x b.across some (corner_fits w.is_right (count_of w) (omega arith)) at.whole.across at.column,
-      ap₂ (mark_at b) (at_end w.left c w.scale x at.column) (at_first w.top (corner_start w.is_lower (count_of w)) w.scale y at.row)
-          ∙ ring_pixel b w 6 1 0 0 at.whole (omega arith) (omega arith) some some,
+    let some = at.whole.at_least in (
+      end_inside w.left (corner_start w.is_right (count_of w)) (count_of w) w.scale x b.across some (corner_fits w.is_right (count_of w) (omega arith)) at.whole.across at.column,
+      ring_at b w x y 6 1 0 0 (x + 5 * w.scale) y at (omega arith) (omega arith) some some (omega arith) (omega arith),
     )
 
 -- the run of light pixels there is five modules long
@@ -187,10 +153,9 @@ corner_seen b w g x y count begins at i j left top =
     let s = w.scale in
     let some = begins.whole.at_least in
     let half : s / 2 < s = omega (arith, some) in
-    ap₂ (mark_at b)
-    (column_of x y s count g (0 + i) (0 + j) at ∙ at_module w.left (corner_start w.is_right (count_of w)) s x i (s / 2) begins.column)
-    (row_of x y s count g (0 + i) (0 + j) at ∙ at_module w.top (corner_start w.is_lower (count_of w)) s y j (s / 2) begins.row)
-    ∙ ring_pixel b w i j (s / 2) (s / 2) begins.whole left top half half
+    let across = column_of x y s count g (0 + i) (0 + j) at in
+    let down = row_of x y s count g (0 + i) (0 + j) at in
+    ring_at b w (x + s) (y + s) i j (s / 2) (s / 2) (column_at g (0 + i) (0 + j)) (row_at g (0 + i) (0 + j)) begins left top half half (omega (arith, across)) (omega (arith, down))
 
 -- a finder pattern, from its modules one after the other
 pub all_modules : (mark : ℕ → ℕ → Bool) (column row : ℕ) → ((k : ℕ) → k < 49 → mark (column + k % 7) (row + k / 7) ≡ finder_dark (k % 7) (k / 7)) → HasFinder mark column row

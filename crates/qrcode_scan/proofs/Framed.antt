@@ -1,6 +1,6 @@
 -- Squares inside a margin: which pixels their modules have.
-use Rattle.std.proofs.Common.{◌≡◌, ℕ, ◌+◌, ◌-◌, ◌*◌, ◌/◌, ◌%◌, ◌<◌, ◌≤◌, ◌&&◌, zero, suc, inl, inr, Bool, true, false, List, length, get_or, nat_le, nat_lt, ap, ap₂, refl, sym, ◌∙◌, arith}
-use Rattle.std.proofs.Math.Nat.{mul-le-mul_right, div-mul-le_self}
+use Rattle.std.proofs.Common.{◌≡◌, ℕ, ◌+◌, ◌-◌, ◌*◌, ◌/◌, ◌%◌, ◌<◌, ◌≤◌, ◌&&◌, inl, inr, Bool, true, false, List, length, get_or, nat_le, nat_lt, ap, ap₂, refl, sym, ◌∙◌, arith}
+use Rattle.std.proofs.Math.Nat.{mul-le-mul_right, div-mul-le_self, mul-div_cancel, mul-mod_left}
 use Rattle.std.proofs.lemmas.Nat.{div-mul-add, mod-mul-add, div-add-mod', mod_below, div_below, mul-add-lt}
 use Rattle.std.proofs.lemmas.Bool.{cases_lt}
 use Rattle.std.proofs.lemmas.Bool.Decides.{nat_tests}
@@ -15,7 +15,7 @@ use Rattle.qrcode_scan.specs.Grids.{colours_at, column_at, row_at, IsInside}
 use Rattle.qrcode_scan.specs.Squares.{IsFramedIn, IsRowOf, IsSquareIn, mark_at}
 use Rattle.qrcode_scan.specs.Wholes.{IsGridAt}
 use Rattle.qrcode_scan.specs.declared.grids.Grid.{Grid}
-use Rattle.qrcode_scan.proofs.Sampled.{column_of, grid_inside, row_of, sampled_is}
+use Rattle.qrcode_scan.proofs.Sampled.{column_of, grid_inside, row_of, sampled_is, some_factor}
 
 -- a pixel of a picture
 pub pixel_of : (at : Layout) (s : List Color) (k : ℕ) → k < pixels_across at * pixels_down at
@@ -74,17 +74,12 @@ row_shown b at s y is top =
     let across : b.across ≡ pixels_across at = ap (λ (p : Bitmap). p.across) is in
     λ x left. ap (λ w. get_or b.marks (y * w + x) false) (sym across) ∙ seen_pixel b at s x y is left top
 
--- a factor of a product that is not 0
-some_width : (n w k : ℕ) → k < n * w → 0 < w
-some_width n zero k inside = omega (arith, inside)
-some_width n (suc w) k inside = omega arith
-
 -- the pixels of rows that are those of a picture
 pub rows_shown : (marks : List Bool) (at : Layout) (s : List Color) (n k : ℕ) → ((y : ℕ) → y < n → IsRowOf marks at s y) → k < n * pixels_across at
     → get_or marks k false ≡ is_dark_pixel at s (k % pixels_across at) (k / pixels_across at)
 rows_shown marks at s n k rows inside =
     let w = pixels_across at in
-    let some = some_width n w k inside in
+    let some = some_factor n w k inside in
     ap (λ i. get_or marks i false) (sym (div-add-mod' k w)) ∙ rows (k / w) (div_below k w n some (omega (arith, inside))) (k % w) (mod_below k w some)
 
 -- a pixel of a module of a square that is shown
@@ -184,12 +179,8 @@ leaves_room b count zone scale column margin s q is =
 
 -- the pixels of a module, by what the margins leave
 pub quotient_of : (extent count scale : ℕ) → 1 ≤ count → extent ≡ scale * count → extent / count ≡ scale
-quotient_of extent count scale some is =
-    let e : extent ≡ scale * count + 0 = omega (arith, is) in
-    ap (λ n. n / count) e ∙ div-mul-add scale count 0 (omega arith)
+quotient_of extent count scale some is = ap (λ n. n / count) is ∙ mul-div_cancel scale some
 
 -- a margin of whole modules
 pub remainder_of : (margin scale zone : ℕ) → 1 ≤ scale → margin ≡ zone * scale → margin % scale ≡ 0
-remainder_of margin scale zone some is =
-    let e : margin ≡ zone * scale + 0 = omega (arith, is) in
-    ap (λ n. n % scale) e ∙ mod-mul-add zone scale 0 (omega arith)
+remainder_of margin scale zone some is = ap (λ n. n % scale) is ∙ mul-mod_left zone scale

@@ -3,7 +3,7 @@ use Rattle.std.proofs.Common.{◌≡◌, ◌⊎◌, inl, inr, ◌+◌, ◌*◌, 
 use Rattle.std.proofs.lemmas.List.FromFn.{map-range_with_len_more, length-map-range_with_len}
 use Rattle.std.proofs.lemmas.Bool.{and_parts, eqb-true}
 use Rattle.std.proofs.lemmas.List.{length-take-le}
-use Rattle.std.proofs.lemmas.Nat.{div-mul-add}
+use Rattle.std.proofs.Math.Nat.{mul-div_cancel_left}
 use Rattle.std.specs.Prelude.{if◌then◌else◌}
 use Rattle.std.proofs.lemmas.Option.{none-some}
 use Rattle.qrcode_scan.specs.Halves.{are_same, behind_colour, IsHalf, AreHalves, padded, rows_from, without_last}
@@ -121,9 +121,7 @@ without_cases across marks =
     left_out (odd && same) across marks (λ is. eqb-true (length marks) (across * (across + 1)) (and_parts odd same is).0)
 
 divided : (across n count : ℕ) → 0 < across → count ≡ across * n → count ≡ across * (count / across)
-divided across n count some is =
-    let by : count / across ≡ n = ap (λ k. k / across) (omega (arith, is)) ∙ div-mul-add n across 0 some in
-    is ∙ ap (λ k. across * k) (sym by)
+divided across n count some is = is ∙ ap (λ k. across * k) (sym (ap (λ k. k / across) is ∙ mul-div_cancel_left n some))
 
 -- the pixels of a text are rows of `across`
 pub text_rows : (across : ℕ) (halves : List Half) → 0 < across

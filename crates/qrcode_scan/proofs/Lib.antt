@@ -4,7 +4,7 @@ mod ExactSquares
 mod Framed
 mod HalfBlocks
 mod Marked
-mod Pieces
+pub mod Pieces
 mod Plain
 mod Rasters
 mod Read

@@ -71,13 +71,10 @@ any_inserted P xs ys y put p =
 
 pub any_kept : {X : Type 0} (P : X → Type 0) (xs ys : List X) (y : X) → (n : ℕ) × (n ≤ length xs) × (ys ≡ insert xs n y) → Any P xs → Any P ys
 any_kept P xs ys y put any =
-    let n = put.0 in
-    let k = any.0 in
-    let x = any.1 in
-    let long = length-insert xs n y put.1 in
-    subst (Any P) (sym put.2) (elim (cases_lt k n) [
-      | inl before ↦ (k, x, omega (arith, long, any.2), get_or-insert_below xs n y x k before put.1 ∙ any.3, any.4)
-      | inr late ↦ (k + 1, x, omega (arith, long, any.2), get_or-insert_above xs n y x k late put.1 ∙ any.3, any.4)
+    let long = length-insert xs put.0 y put.1 in
+    subst (Any P) (sym put.2) (elim (cases_lt any.0 put.0) [
+      | inl before ↦ (any.0, any.1, omega (arith, long, any.2), get_or-insert_below xs put.0 y any.1 any.0 before put.1 ∙ any.3, any.4)
+      | inr late ↦ (any.0 + 1, any.1, omega (arith, long, any.2), get_or-insert_above xs put.0 y any.1 any.0 late put.1 ∙ any.3, any.4)
     ])
 
 -- two codes are two in either order

@@ -1,11 +1,12 @@
 -- Squares of modules in a grid.
-use Rattle.std.proofs.Common.{◌≡◌, ◌∙◌, ◌+◌, ◌-◌, ◌*◌, ◌/◌, ◌%◌, ◌<◌, ◌≤◌, ℕ, List, length, zero, suc, get_or, refl, sym, ap, ap₂, subst, arith}
+use Rattle.std.proofs.Common.{◌≡◌, ◌∙◌, ◌+◌, ◌-◌, ◌*◌, ◌/◌, ◌%◌, ◌<◌, ◌≤◌, ℕ, List, length, zero, suc, get_or, sym, ap, ap₂, subst, arith}
 use Rattle.std.proofs.lemmas.Nat.{div-add-mod', mod_below, div_below}
 use Rattle.std.proofs.lemmas.List.FromFn.{fill_by_all, length-map-range_with_len}
 use Rattle.qrcode_types.specs.Colors.{color_of, is_dark}
 use Rattle.qrcode_types.specs.declared.types.Color.{Color}
-use Rattle.qrcode_types.specs.declared.types.Color.TheVariants.{Light, Dark}
+use Rattle.qrcode_types.specs.declared.types.Color.TheVariants.{Light}
 use Rattle.qrcode_render.specs.Bitmap.{Bitmap}
+use Rattle.qrcode_symbol.proofs.MaskedSquares.{color_dark}
 use Rattle.qrcode_scan.specs.Grids.{colours_at, column_at, row_at, IsInside, IsSampled}
 use Rattle.qrcode_scan.specs.Wholes.{IsGridAt, marked}
 use Rattle.qrcode_scan.specs.declared.grids.Grid.{Grid}
@@ -52,15 +53,10 @@ grid_inside b g x y scale count at some least right low = record {
       (subst (λ n. n < b.down) (sym (row_of x y scale count g (count - 1) (count - 1) at)) (last_inside y count scale b.down some least low));
 }
 
--- a square with a module has at least one module a side
-some_count : (count k : ℕ) → k < count * count → 0 < count
-some_count zero k inside = omega (arith, inside)
-some_count (suc n) k inside = omega arith
-
--- the colour made from whether a colour is dark is that colour
-color_of_is_dark : (c : Color) → color_of (is_dark c) ≡ c
-color_of_is_dark Dark = refl
-color_of_is_dark Light = refl
+-- a factor of a product that is not 0
+pub some_factor : (n w k : ℕ) → k < n * w → 0 < w
+some_factor n zero k inside = omega (arith, inside)
+some_factor n (suc w) k inside = omega arith
 
 -- the modules that are seen in a grid are sampled there
 pub sampled_is : (b : Bitmap) (g : Grid) (count : ℕ) (s : List Color) → g.count ≡ count → length s ≡ count * count
@@ -68,9 +64,9 @@ pub sampled_is : (b : Bitmap) (g : Grid) (count : ℕ) (s : List Color) → g.co
 sampled_is b g count s at all seen =
     let n = g.count in
     sym (fill_by_all (λ (i : ℕ). color_of (marked b g (i % n) (i / n))) s (n * n) Light (all ∙ ap (λ (k : ℕ). k * k) (sym at)) (λ k inside.
-    let some : 0 < n = some_count n k inside in
+    let some : 0 < n = some_factor n n k inside in
     let column : k % n < count = subst (λ m. k % n < m) at (mod_below k n some) in
     let row : k / n < count = subst (λ m. k / n < m) at (div_below k n n some inside) in
     let place : k / n * count + k % n ≡ k = ap (λ c. k / n * c + k % n) (sym at) ∙ div-add-mod' k n in
-    sym (ap color_of (seen (k % n) (k / n) column row) ∙ color_of_is_dark _ ∙ ap (λ m. get_or s m Light) place)
+    sym (ap color_of (seen (k % n) (k / n) column row) ∙ color_dark _ ∙ ap (λ m. get_or s m Light) place)
     ))

@@ -1,15 +1,12 @@
 -- The text of a code, part by part.
-use Rattle.std.proofs.lemmas.Bool.{true≢false}
-use Rattle.std.proofs.Common.{◌≡◌, ◌⊎◌, inl, inr, ℕ, ◌+◌, ◌≤◌, ◌<◌, ◌^◌, ◌-◌, false, true, List, [], ◌∷◌, ◌++◌, length, take, drop, get_or, Option, Some, None, refl, sym, subst, ap₂, ◌∙◌, arith, append_assoc}
-use Rattle.std.specs.Prelude.{min}
+use Rattle.std.proofs.Common.{◌≡◌, ℕ, ◌≤◌, ◌-◌, true, List, [], ◌∷◌, ◌++◌, length, take, drop, get_or, Option, Some, None, refl, sym, subst, ap₂, arith, append_assoc}
 use Rattle.std.specs.List.{IsSplitAt}
 use Rattle.std.proofs.lemmas.List.{take_rest}
-use Rattle.qrcode_types.specs.declared.types.Mode.{Mode}
 use Rattle.qrcode_charsets.specs.Eci.{IsTextUnder}
 use Rattle.qrcode_reader.specs.declared.spell.headers.Header.TheVariants.{Eci}
 use Rattle.qrcode_reader.specs.declared.spell.parts.Part.{Part}
-use Rattle.qrcode_reader.specs.declared.spell.parts.Part.TheVariants.{Front, Bytes}
-use Rattle.qrcode_scan.specs.Texts.{is_readable, IsPushed, IsShownFrom, IsShownText}
+use Rattle.qrcode_reader.specs.declared.spell.parts.Part.TheVariants.{Front}
+use Rattle.qrcode_scan.specs.Texts.{IsPushed, IsShownFrom, IsShownText}
 
 -- Some parts of a code are read: with the text of the others, their text is that of the code, which has no text if the others have none.
 pub record IsAlong (all : List Part) (bytes : List ℕ) (n : Option ℕ) (count : ℕ) (parts : List Part) (own text : List ℕ) : Type 0 where

@@ -1,7 +1,8 @@
 -- Lists of grids that are tried: what pushes do to them, and the squares that they have.
-use Rattle.std.proofs.Common.{◌≡◌, ◌⊎◌, ◌*◌, ℕ, ◌+◌, ◌-◌, ◌/◌, ◌%◌, ◌==◌, ◌<◌, ◌≤◌, ◌++◌, ◌∷◌, [], inl, inr, Bool, true, false, List, Option, Some, None, length, ap, ap₂, refl, sym, subst, ◌∙◌, arith, length-append, if◌then◌else◌}
+use Rattle.std.proofs.Common.{◌≡◌, ◌⊎◌, ◌*◌, ℕ, ◌+◌, ◌-◌, ◌/◌, ◌%◌, ◌==◌, ◌<◌, ◌≤◌, ◌++◌, ◌∷◌, [], inl, inr, Bool, List, Option, Some, None, length, ap, ap₂, refl, sym, subst, ◌∙◌, arith, length-append, if◌then◌else◌}
 use Rattle.std.specs.Prelude.{Any, IfNone, IfSome}
 use Rattle.std.proofs.lemmas.Bool.{cases_lt}
+use Rattle.std.proofs.lemmas.Bool.Decides.{nat_tests}
 use Rattle.std.proofs.lemmas.List.{get_or_append_left}
 use Rattle.std.proofs.lemmas.List.Elements.{All-push}
 use Rattle.std.proofs.lemmas.List.Quantifiers.{Any-push, all_pairs_push}
@@ -54,16 +55,7 @@ found_left w xs ys (inr any) = inr (any_left (IsGridOf w) xs ys any)
 
 -- the same grid is that of the same square
 same_place : (w : Whole) (g h : Grid) → AreSame h g → IsGridOf w g → IsGridOf w h
-same_place w g h same at = record {
-  count = same.count ∙ at.count;
-  left = same.left ∙ at.left;
-  top = same.top ∙ at.top;
-  across = same.across ∙ at.across;
-  down = same.down ∙ at.down;
-  lean = same.lean ∙ at.lean;
-  fall = same.fall ∙ at.fall;
-  parts = same.parts ∙ at.parts;
-}
+same_place w g h same at = grind (arith, same, at)
 
 -- a push keeps what is found
 pub push_keeps : (w : Whole) (old new : List Grid) (grid : Option Grid) → IsPushed old grid new → IsTriedIn old w → IsTriedIn new w
@@ -126,12 +118,10 @@ abbrev pub number_of : Whole → ℕ
 number_of w = 4 * (w.version - 1) + 2 * flag w.is_lower + flag w.is_right
 
 flag_small : (b : Bool) → flag b ≤ 1
-flag_small true = omega arith
-flag_small false = omega arith
+flag_small b = grind arith
 
 flag_is : (b : Bool) (n : ℕ) → flag b ≡ n → b ≡ (n == 1)
-flag_is true n is = ap (λ k. k == 1) is
-flag_is false n is = ap (λ k. k == 1) is
+flag_is b n is = grind (arith, nat_tests, is)
 
 numbered : (v i : ℕ) (r l : Bool) → 1 ≤ v → 4 * (v - 1) + 2 * flag l + flag r ≡ i → (v ≡ 1 + i / 4) × (r ≡ (i % 2 == 1)) × (l ≡ (i / 2 % 2 == 1))
 numbered v i r l some is =
