@@ -1,6 +1,6 @@
 -- The smallest version that holds segments.
-use Rattle.std.proofs.Common.{◌≡◌, ℕ, ◌+◌, ◌<◌, ◌≤◌, List, true, false, Some, IsTrue, refl, sym, subst, ◌∙◌, inl, inr, true≢false, arith, pos}
-use denote.Enum.Bare.{sameb, differs_true, differs_false}
+use Rattle.std.proofs.Common.{◌≡◌, ℕ, ◌+◌, ◌<◌, ◌≤◌, List, false, Some, IsTrue, refl, sym, subst, ◌∙◌, inl, inr, true≢false, arith, pos}
+use denote.Enum.Bare.{sameb, differs_false}
 use Rattle.std.specs.Prelude.{◌≢◌, not}
 use Rattle.goqlanis_buffers.specs.contracts.answers.Refusal.{the_type}
 use Rattle.std.proofs.lemmas.Bool.{cases_lt, le-leb}
@@ -25,13 +25,6 @@ not_held v l segments (inl first) held =
     absurd cc
 not_held v l segments (inr c) held = absurd (omega (arith, c.1, held.room))
 
--- the test `refusal != NoRoom` found another error
-pub not_room : (r : Refusal) → true ≡ not (sameb the_type r NoRoom) → r ≢ NoRoom
-not_room r found = differs_true the_type r NoRoom (sym found)
-
-is_room : (r : Refusal) → false ≡ not (sameb the_type r NoRoom) → r ≡ NoRoom
-is_room r found = differs_false the_type tt r NoRoom (sym found)
-
 -- if a version has the level and the error is `NoRoom`, it has no room for the segments
 no_room : (v : Version) (l : EcLevel) (segments : List Segment) → IsTrue (has_level v l) → AreUnheld v l segments NoRoom → HasNoRoom v l segments
 no_room v l segments exists (inl memory) = let same : NoRoom ≡ OutOfMemory = memory in absurd cc
@@ -48,7 +41,7 @@ no_room_more number v l segments r named some most found why lesser n first smal
   | inl less ↦ lesser n first less
   | inr more ↦
       let equal : number ≡ n = omega (arith, more, small) in
-      let unheld = subst (λ r. AreUnheld (Normal (pos number)) l segments r) (is_room r found) (subst (λ w. AreUnheld w l segments r) named why) in
+      let unheld = subst (λ r. AreUnheld (Normal (pos number)) l segments r) (differs_false the_type tt r NoRoom (sym found)) (subst (λ w. AreUnheld w l segments r) named why) in
       subst (λ k. HasNoRoom (Normal (pos k)) l segments) equal (no_room (Normal (pos number)) l segments (normal_level number l some most) unheld)
 ]
 

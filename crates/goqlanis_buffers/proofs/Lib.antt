@@ -6,7 +6,6 @@ pub mod Least
 pub mod Taken
 pub mod Reported
 pub mod Fields
-mod Joined
 pub mod BySide
 pub mod OnePicture
 pub mod Refused

@@ -2,7 +2,7 @@
 use Rattle.std.proofs.Common.{◌≡◌, ℕ, ◌+◌, ◌<◌, Bool, List, ◌++◌, length, get_or, take, None, below_more}
 use Rattle.std.proofs.lemmas.Option.{get_or_from_slice_get}
 use Rattle.qrcode_types.specs.declared.types.Version.{Version}
-use Rattle.goqlanis_buffers.proofs.Joined.{flat_map_more}
+use Rattle.qrcode_scan.proofs.Pieces.{flat_map_more}
 use Rattle.goqlanis_buffers.specs.Segments.{segment_bits, segment_refusal, written_segments, AreTaken}
 use Rattle.goqlanis_buffers.specs.declared.segments.Segment.{Segment}
 

@@ -1,6 +1,7 @@
 -- Colours that parts of a code have of their own.
 use Rattle.std.proofs.Common.{◌≡◌, ◌&&◌, ◌||◌, Bool, true, false, true≢false, IsTrue, suc, List, [], ◌∷◌, flat_map, length, map, refl, sym, ap, subst, ◌∙◌, arith}
 use Rattle.std.proofs.lemmas.Bool.{ne_eqb}
+use Rattle.std.proofs.lemmas.Bool.Decides.{nat_tests}
 use Rattle.std.specs.List.{list_all}
 use Rattle.qrcode_sheets.specs.Formats.{row}
 use Rattle.qrcode_sheets.specs.declared.formats.Colours.{Colours}
@@ -24,8 +25,7 @@ none_of test same (t ∷ ts) all =
     ] refl (ap (λ b. b && list_all test ts) (sym (same t)) ∙ all)
 
 third : (a b c : Bool) → IsTrue (a && b && c) → c ≡ true
-third true true c is = is
-third a b c is = absurd (true≢false (sym is))
+third a b c is = grind (arith, nat_tests, is)
 
 -- a format without colours of parts draws none
 pub no_paints : (f : Format) (d : Drawing) → (row f).parts ≡ Fixed → IsTrue (is_sayable f d) → paints d ≡ []

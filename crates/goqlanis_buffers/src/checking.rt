@@ -153,7 +153,7 @@ fn checks_in(alloc: Global, checks: &[Check]) -> Result<Vec<Checked>, AllocError
 }
 
 // The wrong codewords of the blocks, code after code.
-#[tactic(auto, using(crate::proofs::Joined::flat_map_more))]
+#[tactic(auto, using(qrcode_scan::proofs::Pieces::flat_map_more))]
 fn wrong_in(alloc: Global, checks: &[Check]) -> Result<Vec<usize>, AllocError>
     ensures { IfOk result (λ wrong. wrong.items ≡ flat_map wrong_in checks.now) }
 {

@@ -151,7 +151,7 @@ fn codes_in(alloc: Global, scans: &[Found]) -> Result<Vec<Code>, AllocError>
 }
 
 // The parts of all codes, in order.
-#[tactic(auto, using(crate::proofs::Joined::flat_map_more))]
+#[tactic(auto, using(qrcode_scan::proofs::Pieces::flat_map_more))]
 fn parts_in(alloc: Global, scans: &[Found]) -> Result<Vec<Part>, AllocError>
     ensures { IfOk result (λ parts. parts.items ≡ flat_map parts_in scans.now) }
 {
@@ -163,7 +163,7 @@ fn parts_in(alloc: Global, scans: &[Found]) -> Result<Vec<Part>, AllocError>
 }
 
 // The bytes of all codes, in order.
-#[tactic(auto, using(crate::proofs::Joined::flat_map_more))]
+#[tactic(auto, using(qrcode_scan::proofs::Pieces::flat_map_more))]
 fn bytes_in(alloc: Global, scans: &[Found]) -> Result<Vec<u8>, AllocError>
     ensures { IfOk result (λ bytes. bytes.items ≡ flat_map bytes_in scans.now) }
 {

@@ -128,7 +128,7 @@ fn look_up(options: &Several) -> Result<Named, Refusal>
 }
 
 // The modules of all symbols as bytes, symbol after symbol.
-#[tactic(auto, using(crate::proofs::Joined::flat_map_more))]
+#[tactic(auto, using(qrcode_scan::proofs::Pieces::flat_map_more))]
 fn modules_of(alloc: Global, codes: &[QrCode]) -> QrResult<Vec<u8>>
     ensures value { IfOk result (λ all. all.items ≡ modules_of codes.now) }
     ensures memory { IsOkUnless result OutOfMemory }

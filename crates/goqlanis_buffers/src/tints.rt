@@ -131,7 +131,7 @@ fn version_across(width: u32) -> Option<Version>
 
 /// Returns those of the tints that are colours of their own, with their names. Errors: only
 /// `OutOfMemory`.
-#[tactic(auto, using(crate::proofs::Joined::flat_map_more))]
+#[tactic(auto, using(qrcode_scan::proofs::Pieces::flat_map_more))]
 pub(crate) fn own_tints(alloc: Global, tints: &[Tint]) -> QrResult<Vec<NamedTint>>
     ensures value { IfOk result (λ own. map named_paint own.items ≡ flat_map paint_in tints.now) }
     ensures memory { IsOkUnless result OutOfMemory }

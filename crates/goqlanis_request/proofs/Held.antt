@@ -1,8 +1,9 @@
 -- The versions that hold segments.
-use Rattle.std.proofs.Common.{◌≡◌, ℕ, ◌+◌, ◌<◌, ◌≤◌, pos, Bool, true, false, not, List, Option, Some, None, IsTrue, if◌then◌else◌, refl, sym, ap, subst, ◌∙◌, ◌⊎◌, inl, inr, arith, true≢false}
+use Rattle.std.proofs.Common.{◌≡◌, ℕ, ◌+◌, ◌<◌, ◌≤◌, pos, Bool, not, List, Option, Some, None, IsTrue, if◌then◌else◌, refl, sym, subst, ◌∙◌, ◌⊎◌, inl, inr, arith, true≢false}
 use Rattle.std.specs.Option.{option_or}
 use Rattle.std.specs.Prelude.{Result, Ok, Err, IfOk, IfErr, OnOk}
 use Rattle.std.proofs.lemmas.Bool.{cases_lt}
+use Rattle.std.proofs.lemmas.Bool.Decides.{nat_tests}
 use Rattle.qrcode_types.specs.Versions.{is_valid, has_level}
 use Rattle.qrcode_types.specs.declared.types.EcLevel.{EcLevel}
 use Rattle.qrcode_types.specs.declared.types.QrError.{QrError}
@@ -20,21 +21,15 @@ use Rattle.goqlanis_request.specs.declared.segments.Segment.{Segment}
 
 -- a version has the level if its lack is no cause to fail
 level_of : (first : Option QrError) (has : Bool) (r : Option QrError) → option_or first (if not has then Some InvalidVersion else r) ≡ None → IsTrue has
-level_of None true r h = refl
-level_of None false r h = absurd cc
-level_of (Some e) has r h = absurd cc
+level_of first has r h = grind (arith, nat_tests, h)
 
 -- an allowed version has at least the rank of the first
 behind_first : (choice : Choice) (v : Version) → MayTake choice v → rank (first_of choice) ≤ rank v
-behind_first (From from) v may = may
-behind_first (Boosted from) v may = may
-behind_first (At version) v may = omega (arith, ap rank may)
+behind_first choice v may = grind (arith, may)
 
 -- a version before the last is allowed
 pub may_before : (choice : Choice) (v : Version) → rank (first_of choice) ≤ rank v → rank v < rank (last_of choice) → MayTake choice v
-may_before (From from) v low high = low
-may_before (Boosted from) v low high = low
-may_before (At version) v low high = absurd (omega (arith, low, high))
+may_before choice v low high = grind (arith, low, high)
 
 -- and so is the last
 pub may_last : (choice : Choice) → IsTrue (is_valid (first_of choice)) → MayTake choice (last_of choice)

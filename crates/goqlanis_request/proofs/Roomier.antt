@@ -1,17 +1,15 @@
 -- Logo areas at other levels and in other versions.
-use Rattle.std.proofs.Common.{◌≡◌, ℕ, ◌+◌, ◌==◌, Bool, if◌then◌else◌, refl, sym, ap, ◌∙◌, arith, pos, subst, inl, inr}
+use Rattle.std.proofs.Common.{◌≡◌, ℕ, ◌+◌, Bool, arith, pos, subst, inl, inr}
 use Rattle.std.specs.Prelude.{Option, None, Some}
 use Rattle.std.proofs.lemmas.Bool.{cases_lt}
-use Rattle.qrcode_types.specs.Versions.{level_number}
 use Rattle.qrcode_types.specs.declared.types.Version.{Version}
 use Rattle.qrcode_types.specs.declared.types.Version.TheVariants.{Normal}
 use Rattle.qrcode_types.specs.declared.types.EcLevel.{EcLevel}
-use Rattle.qrcode_types.specs.declared.types.EcLevel.TheVariants.{L, M, Q, H}
 use Rattle.qrcode_damage.specs.Areas.{MayShowAnything}
 use Rattle.qrcode_damage.specs.Rectangles.{only, Fits, LeavesPatterns}
 use Rattle.qrcode_damage.specs.declared.areas.Rectangle.{Rectangle}
 use Rattle.qrcode_damage.proofs.Bounds.{excess_is_not, leaves_may}
-use Rattle.goqlanis_request.specs.Areas.{half_wish, middle, wish_for, HasArea, IsAreaOf, IsRefusedAt, IsRefusedOf, IsSized, NoHigher, NoLarger}
+use Rattle.goqlanis_request.specs.Areas.{half_wish, middle, wish_for, HasArea, IsAreaOf, IsRefusedAt, IsRefusedOf, IsSized, NoLarger}
 use Rattle.goqlanis_request.specs.declared.areas.LogoError.{LogoError}
 use Rattle.goqlanis_request.specs.declared.areas.LogoError.TheVariants.{Outside, Patterns, Excess, NoRoom, OutOfMemory}
 use Rattle.goqlanis_request.specs.declared.areas.LogoWish.{LogoWish}
@@ -30,26 +28,6 @@ pub no_area : (v : Version) (l : EcLevel) (w : LogoWish) (size : Option ℕ) (e 
 no_area v l w None e r why is =
     why.1 is.size (omega (arith, is.odd)) is.inside is.odd (subst (λ (r : Rectangle). Fits v l (half_wish v l w) (only r)) is.centred is.fits)
 no_area v l w (Some size) e r why is = none_sized v l w size e r why is
-
-abbrev level_at : ℕ → EcLevel  -- the level with this number
-level_at n = if n == 0 then L else if n == 1 then M else if n == 2 then Q else H
-
-at_number : (l : EcLevel) → level_at (level_number l) ≡ l
-at_number L = refl
-at_number M = refl
-at_number Q = refl
-at_number H = refl
-
--- levels with the same number are the same
-same_level : (l m : EcLevel) → level_number l ≡ level_number m → l ≡ m
-same_level l m e = sym (at_number l) ∙ ap level_at e ∙ at_number m
-
--- one more level has no such area
-pub none_higher : (v : Version) (l m : EcLevel) (w : LogoWish) (n : ℕ) → level_number m ≡ n → NoHigher v l w n → ¬ HasArea v m w → NoHigher v l w (n + 1)
-none_higher v l m w n is none not_here h above below = elim (cases_lt (level_number h) n) [
-  | inl lower ↦ none h above lower
-  | inr same ↦ subst (λ (k : EcLevel). ¬ HasArea v k w) (same_level m h (let e : level_number m ≡ level_number h = omega (arith, is, same, below) in e)) not_here
-]
 
 -- one more version has no such area
 pub none_larger : (v u : Version) (l : EcLevel) (w : LogoWish) (n : ℕ) → u ≡ Normal (pos n) → NoLarger v l w n → ¬ HasArea u l w → NoLarger v l w (n + 1)

@@ -37,9 +37,6 @@ start_or s t other = grind (arith, nat_tests)
 has_from : (m : Mode) (b : ℕ) → b < 256 → goes_with m b ≡ true → has_characters m b ≡ true
 has_from m b byte can = grind (arith, nat_tests)
 
-none_both : (t : Bool) → (t && false) ≡ false
-none_both t = grind (arith, nat_tests)
-
 -- a segment may end at the end of the data
 last_ends : (m : Mode) (b : ℕ) → must_end m b 0 ≡ false
 last_ends m b = grind (arith, nat_tests)
