@@ -35,7 +35,7 @@ exam: Python makes exams: python3 -m goqlanis exam FOLDER
 --data --text: a text needs no option: goqlanis \"some text\"
 --barcode: only QR codes are made; leave it out
 --esc: write the characters themselves, e.g. by printf
---timezone --tz: write the zone behind the time, e.g. 2026-11-28T14:00+01:00
+--timezone --tz --tzid: write the zone behind the time, e.g. 2026-11-28T14:00+01:00
 --skip-header --skip-first-line --no-header: if the first line names the columns, add --header
 --lines --header --columns --field: this command makes no codes of lines
 --manual --completions: ./install and the packages put the manual and completions in place
@@ -55,8 +55,10 @@ exam: Python makes exams: python3 -m goqlanis exam FOLDER
 --micro: GS1 data and the codes of split are never Micro QR; leave it out
 txt: for .txt files, --format half-blocks; text has a character per module
 utf8 UTF8 unicode: for this, --format half-blocks; terminal adds black on white
+utf8i UTF8i ansiutf8i ANSIUTF8i: for light on dark, --format half-blocks --invert
+asciii ASCIIi: for light on dark, --format ascii --invert
 png32 PNG32: use --format png; for transparency, --light transparent or #rrggbbaa
-ansi ANSI ansi256 ANSI256 ansiutf8 ANSIUTF8: for this, --format terminal
+ansi ANSI ansi256 ANSI256 ansiutf8 ANSIUTF8 ansi256utf8 ANSI256UTF8: for this, --format terminal
 jpg JPG jpeg JPEG gif GIF: use --format png, and convert that";
 
 /// Whether a word is a command of other programs that makes a code of a text.
