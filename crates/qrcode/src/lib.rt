@@ -9,7 +9,7 @@
 //! - `QrCode::at_least` chooses among all versions from a given one on, Micro included;
 //!   `QrCode::at_least_boosted` also raises the level as far as the chosen version allows.
 //! - `QrCode::with_bits` takes a list of bits, to which `bits::Bits` appends segments one by one.
-//! - `QrCode::render` makes the picture: text, SVG, PDF and the other formats of `render`.
+//! - `QrCode::render` makes the picture: text, SVG and the other formats of `render`.
 //!
 //! Each function is proved: it is safe, terminates, and meets the clauses between its head and its
 //! body. They say what it returns, and when it fails with which error.
