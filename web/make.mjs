@@ -1,6 +1,6 @@
 /* Makes codes: shows the code of what is typed, and saves it. */
 
-import { QrCode, QrError, areClose } from "./goqlanis/index.mjs";
+import { QrError, areClose } from "./goqlanis/index.mjs";
 import { FORMS, at, fieldOf, made, saidOf } from "./forms.mjs";
 
 const TYPES = { svg: "image/svg+xml", png: "image/png", pdf: "application/pdf",
@@ -104,13 +104,31 @@ function make() {
     const values = Object.fromEntries(names.map((it) => [it, valueOf(at(`field-${it}`))]));
     const version = at("version").value || undefined;
     const micro = at("micro").checked && version === undefined, mask = at("mask").value;
-    const made = form.make(values, { level: at("level").value, version, micro,
+    const options = { level: at("level").value, version, micro,
         boost: at("boost").checked && version === undefined,
-        marked: at("marked").checked, mask: mask === "" ? null : Number(mask) });
+        marked: at("marked").checked, mask: mask === "" ? null : Number(mask) };
+    const made = form.make(values, options);
     if (form.most && !(Number(made.version) <= form.most))
         throw new QrError("NoRoom", `The code has version ${made.version}: such codes have at most `
             + `version ${form.most}.`);
-    return logo === null ? made : made.withLogo(logo);
+    const inVersion = (each) => form.make(values,
+        { ...options, level: made.level, version: each, micro: false, boost: false });
+    return logo === null ? made : withLogo(made, inVersion, version ? 0 : form.most || 40);
+}
+
+/** Returns a code with the logo: in the first of four versions in which it is large, up to `most`,
+    else in the smallest. */
+function withLogo(made, inVersion, most) {
+    const first = made.withLogo(logo), from = Number(made.version);
+    let found = first;
+    for (let each = from + 1; !isLarge(found) && each <= Math.min(from + 3, most); each++)
+        found = inVersion(each).withLogo(logo);
+    return isLarge(found) ? found : first;
+}
+
+/** Returns whether the longer side of a logo's area has a fourth of the code's. */
+function isLarge({ logo: { area }, width }) {
+    return 4 * Math.max(area.width, area.height) >= width;
 }
 
 /** Draws the code, or says what is wrong. */
@@ -130,7 +148,7 @@ function draw() {
     at("picture").src = code === null ? "" : `data:image/svg+xml,${encodeURIComponent(svg)}`;
     at("picture").alt = code === null ? "" : `QR code, ${code.width} modules a side`;
     for (const button of at("save").children)
-        button.disabled = code === null;
+        button.disabled = code === null || !hasPicture(button.dataset.format ?? "png");
     if (code !== null)
         at("said").textContent = aboutOf(code);
     at("warnings").replaceChildren(...warningsOf(code).map((it) => made("li", {}, it)));
@@ -184,8 +202,10 @@ function warningsOf(made) {
         ...(/^.{1,7}$/u.test(at("field-password")?.value ?? "")
             && ["", "WPA"].includes(at("field-security").value)
             ? ["The password has fewer than 8 characters, which WPA needs."] : []),
-        ...(logo === null ? [] : [`${showsLogo("png") ? "SVG and PNG show" : "Only SVG shows"} `
-            + "the logo; other files leave its area light."]),
+        ...(logo === null ? [] : [`${hasPicture("png") ? "SVG and PNG have" : "Only SVG has"} `
+            + "such logos."]),
+        ...(logo === null || isLarge(made) || made.level === "H" ? []
+            : ["The logo is small: level H has more room."]),
     ];
 }
 
@@ -208,19 +228,14 @@ function tell(text) {
     at("done").textContent = text;
 }
 
-/** Returns whether a format shows the logo: SVG does, and PNG one that is a PNG file. */
-function showsLogo(format) {
-    return format === "svg" || format === "png" && logo?.[0] === 137;
-}
-
-/** Returns the code as a format shows it: with the logo, or a light area. */
-function shownIn(format) {
-    return showsLogo(format) ? code : new QrCode(code.modules, code.version, code.level);
+/** Returns whether a format can have the logo, if there is one: SVG, or PNG for a PNG file. */
+function hasPicture(format) {
+    return logo === null || format === "svg" || format === "png" && logo[0] === 137;
 }
 
 function save(format) {
     try {
-        const data = shownIn(format).draw(format, drawOptions(format));
+        const data = code.draw(format, drawOptions(format));
         const href = URL.createObjectURL(new Blob([data], { type: TYPES[format] }));
         made("a", { href, download: `code.${format}` }).click();
         setTimeout(() => URL.revokeObjectURL(href), 60000);
@@ -232,7 +247,7 @@ function save(format) {
 
 async function copy() {
     try {
-        const picture = new Blob([shownIn("png").png(drawOptions("png"))], { type: "image/png" });
+        const picture = new Blob([code.png(drawOptions("png"))], { type: "image/png" });
         await navigator.clipboard.write([new ClipboardItem({ "image/png": picture })]);
         tell("Copied as an image.");
     } catch (error) {

@@ -10,8 +10,9 @@ const KINDS = { ...FORMATS,
     light: { number: LIGHT_HALF_BLOCKS, isText: true, scale: 1, hasColours: false },
     grey: { number: GREY, isText: false, scale: 8, hasColours: false } };
 const TRANSPARENT = 0xff000000, BLACK = 0x000000, WHITE = 0xffffff, MOST_SIDE = 65535;
-/* No colour of its own, and the most pixels a side of a PNG file with colours of patterns. */
-const SAME = 0xffffffff, MOST_COLOURFUL = 8192;
+/* No colour of its own, and the most pixels a side of a PNG file with colours of patterns, and points
+   a side of a page in PDF. */
+const SAME = 0xffffffff, MOST_COLOURFUL = 8192, MOST_POINTS = 14400;
 /* The options of colours of patterns and data, and their names in the struct; false is SAME. */
 const PARTS = new Map(STRUCTS.goq_drawing.split(" ").slice(7)
     .map((it) => [it.replace(/_./, (part) => part[1].toUpperCase()), it]));
@@ -40,6 +41,9 @@ export function drawn(code, format, given, logo = null) {
         throw new QrError("NoSuchSize", `a side of ${grouped(side)} pixels: this format has at `
             + `most ${grouped(most)}: take ` + (across > most ? "a smaller quietZone"
                 : `scale: ${Math.floor(most / across)} or less`));
+    if (format === "pdf" && 72 * side > MOST_POINTS * (exact?.dpi ?? (dpi || 72)))
+        console.warn("a page in PDF has at most 14,400 points (5,080 mm) a side, and this one has "
+            + "more: take a smaller size or scale");
     return within((buffers) => {
         const drawing = { format: kind.number, zone, scale, dark, light, dpi: exact?.dpi ?? dpi,
             ...Object.fromEntries(Object.entries(own).map(([it, ink]) => [PARTS.get(it), ink])) };
