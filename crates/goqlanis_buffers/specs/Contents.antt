@@ -7,8 +7,8 @@ use Rattle.qrcode_contents.specs.declared.fields.errors.Cause.TheVariants.{Empty
 use Rattle.qrcode_contents.specs.declared.fields.errors.ContentError.{ContentError}
 use Rattle.qrcode_contents.specs.declared.fields.errors.ContentError.TheVariants.{Refused}
 use Rattle.qrcode_contents.specs.declared.fields.errors.Field.{Field}
-use Rattle.qrcode_payloads.specs.Kinds.{kind_named, fields_of, place_of}
-use Rattle.qrcode_payloads.specs.Texts.{content_refusal, payload_text, IsReadAs}
+use Rattle.qrcode_payloads.specs.Kinds.{kind_named, fields_of, field_index}
+use Rattle.qrcode_payloads.specs.Texts.{content_refusal, payload_text, IsReadAsFields}
 use Rattle.qrcode_payloads.specs.declared.kinds.Kind.{Kind}
 use Rattle.goqlanis_buffers.specs.Calls.{Writes}
 use Rattle.goqlanis_buffers.specs.Outputs.{IsFilled}
@@ -25,7 +25,7 @@ abbrev pub valid_text : List ℕ → List ℕ  -- the bytes if they are UTF-8, e
 valid_text bytes = if is_utf8 bytes then bytes else []
 
 abbrev pub texts_of : Kind → List Item → Field → List ℕ  -- the text of each field of a kind, by its index
-texts_of kind given field = valid_text (text_at given (place_of (fields_of kind) field))
+texts_of kind given field = valid_text (text_at given (field_index (fields_of kind) field))
 
 -- the error of a field by its own check, at index `place` of a kind with `count` fields
 abbrev pub field_fault : ℕ → ℕ → Item → Option Fault
@@ -67,7 +67,7 @@ pub record IsContent (number : ℕ) (given : List Item) (text : List ℕ) : Type
   pub asked : kind_named number ≡ Some kind
   pub taken : AreTaken (length (fields_of kind)) given (length given)
   pub accepted : refusal_for kind given ≡ None
-  pub reads : IsReadAs kind (texts_of kind given) text
+  pub reads : IsReadAsFields kind (texts_of kind given) text
   pub value : text ≡ payload_text kind (texts_of kind given)
 
 -- such a text at the start of a buffer, which is otherwise unchanged, and its length
@@ -84,7 +84,7 @@ pub record IsFormatFault (kind : Kind) (given : List Item) (fault : Fault) : Typ
   pub place : ℕ
   pub taken : AreTaken (length (fields_of kind)) given (length given)
   pub refused : refusal_for kind given ≡ Some (Refused field cause)
-  pub at : place ≡ place_of (fields_of kind) field
+  pub at : place ≡ field_index (fields_of kind) field
   pub is : fault ≡ At place (cause_refusal cause)
 
 -- the fields of a kind have an error: the first field that fails its own check, or else the first that the format names

@@ -3,7 +3,7 @@
 
 ghost use Rattle.std.specs.Prelude.{◌≡◌, length, string_bytes, IfOk, IfErr, OnOk};
 ghost use Rattle.qrcode_contents.specs.fields.Refusals.{Answers};
-ghost use Rattle.qrcode_payloads.specs.Texts.{payload_text, IsReadAs};
+ghost use Rattle.qrcode_payloads.specs.Texts.{payload_text, IsReadAsFields};
 ghost use Rattle.goqlanis_buffers.specs.Contents.{cause_refusal, field_fault, passed, refusal_for, text_at, texts_of, valid_text, AreTaken, IsFirstWrong, WritesContent};
 
 use crate::answers::{Fault, Refusal};
@@ -94,7 +94,7 @@ fn check_field(count: usize, place: usize, field: &Item<'_>) -> Result<(), Fault
 // The text of fields that passed `check`.
 #[tactic(auto, unfolding(crate::specs::Contents::refusal_for))]
 fn payload(alloc: Global, kind: Kind, given: &[Item<'_>]) -> ContentResult<String>
-    ensures reads { Answers (refusal_for kind given.now) result (IsReadAs kind
+    ensures reads { Answers (refusal_for kind given.now) result (IsReadAsFields kind
         (texts_of kind given.now)) }
     ensures value { IfOk result (λ text. string_bytes text
         ≡ payload_text kind (texts_of kind given.now)) }

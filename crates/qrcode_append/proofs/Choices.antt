@@ -15,7 +15,7 @@ use Rattle.qrcode.specs.Code.{Code}
 use Rattle.qrcode_append.specs.Division.{part}
 use Rattle.qrcode_append.specs.Fewest.{IsAmong, IsLeastAmong, AreCounted, AreFewest, AreNotHeld}
 use Rattle.qrcode_append.specs.Reading.{EachAt}
-use Rattle.qrcode_append.specs.Symbols.{HoldSeveral, IsPartSymbol, AreRefused}
+use Rattle.qrcode_append.specs.Symbols.{HoldSeveral, IsPartSymbol, AreSymbolsRefused}
 use Rattle.qrcode_append.specs.declared.choice.Versions.{Versions}
 use Rattle.qrcode_append.proofs.Parts.{parted_of}
 
@@ -75,7 +75,7 @@ none_counted e is (inl memory) = cc
 none_counted e is (inr counted) = counted.1
 
 -- why a range of one version does not hold the data
-pub one_refused : (m : Manner) (n : ℕ) (l : EcLevel) (bytes : List ℕ) (e : QrError) → AreNotHeld m (record { least = n; greatest = n }) l bytes e → AreRefused m (Normal (pos n)) l bytes e
+pub one_refused : (m : Manner) (n : ℕ) (l : EcLevel) (bytes : List ℕ) (e : QrError) → AreNotHeld m (record { least = n; greatest = n }) l bytes e → AreSymbolsRefused m (Normal (pos n)) l bytes e
 one_refused m n l bytes e (inl memory) = inl memory
 one_refused m n l bytes e (inr (inl (is, none))) = inr (inl (is, λ has normal. none n (omega arith, omega arith) has))
 one_refused m n l bytes e (inr (inr (is, (some, none)))) =

@@ -77,7 +77,7 @@ pub record AreSeveral (m : Manner) (v : Version) (l : EcLevel) (bytes : List ℕ
   pub fewest : (count : ℕ) → HoldSeveral m v l bytes count → length codes ≤ count
 
 -- why the call fails: memory ran out; no symbol of this version and level can be one of several; or 16 of them do not hold the data
-abbrev pub AreRefused : Manner → Version → EcLevel → List ℕ → QrError → Type 0
-AreRefused m v l bytes e =
+abbrev pub AreSymbolsRefused : Manner → Version → EcLevel → List ℕ → QrError → Type 0
+AreSymbolsRefused m v l bytes e =
     (e ≡ OutOfMemory) ⊎ (((e ≡ InvalidVersion) × (IsTrue (has_level v l) → is_micro v ≡ false → ⊥))
     ⊎ ((e ≡ DataTooLong) × (IsTrue (has_level v l) × (is_micro v ≡ false) × ((count : ℕ) → ¬ HoldSeveral m v l bytes count))))

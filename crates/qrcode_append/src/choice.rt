@@ -5,7 +5,7 @@ ghost use Rattle.qrcode_types.specs.declared.types.QrError.TheVariants.{DataTooL
 ghost use Rattle.qrcode_types.specs.declared.types.Version.TheVariants.{Normal};
 ghost use Rattle.qrcode_bits.specs.Refusals.{data_limit};
 ghost use Rattle.qrcode_append.specs.Fewest.{IsAmong, IsLeastAmong, AreCounted, AreFewest, AreNotHeld};
-ghost use Rattle.qrcode_append.specs.Symbols.{HoldSeveral, AreSeveral, AreRefused};
+ghost use Rattle.qrcode_append.specs.Symbols.{HoldSeveral, AreSeveral, AreSymbolsRefused};
 
 use crate::drawing::symbols;
 use crate::holding::{Plan, hold};
@@ -35,7 +35,7 @@ pub(crate) fn encode_as(
         AreSeveral manner version ec_level bytes.now codes.items) }
     ensures accepts { (count : ℕ) → HoldSeveral manner version ec_level bytes.now count
         → IsOkUnless result OutOfMemory }
-    ensures causes { IfErr result (AreRefused manner version ec_level bytes.now) }
+    ensures causes { IfErr result (AreSymbolsRefused manner version ec_level bytes.now) }
 {
     let number = match version {
         Version::Normal(number) if number > 0 => number as usize,

@@ -14,7 +14,7 @@ ghost use Rattle.qrcode_types.specs.declared.types.QrError.TheVariants.{OutOfMem
 ghost use Rattle.qrcode_types.specs.declared.types.Version.TheVariants.{Normal};
 ghost use Rattle.qrcode_bits.specs.declared.bits.manner.Manner.TheVariants.{Bytes, Text};
 ghost use Rattle.qrcode_append.specs.Fewest.{IsAmong, AreFewest, AreNotHeld};
-ghost use Rattle.qrcode_append.specs.Symbols.{HoldSeveral, AreSeveral, AreRefused};
+ghost use Rattle.qrcode_append.specs.Symbols.{HoldSeveral, AreSeveral, AreSymbolsRefused};
 
 use choice::encode_as;
 pub use choice::{Versions, encode_among, encode_counted};
@@ -42,7 +42,7 @@ pub fn encode_several(
         AreSeveral Bytes version ec_level bytes.now codes.items) }
     ensures accepts { (count : ℕ) → HoldSeveral Bytes version ec_level bytes.now count
         → IsOkUnless result OutOfMemory }
-    ensures causes { IfErr result (AreRefused Bytes version ec_level bytes.now) }
+    ensures causes { IfErr result (AreSymbolsRefused Bytes version ec_level bytes.now) }
 {
     encode_as(alloc, bytes, Manner::Bytes, version, ec_level)
 }
@@ -62,7 +62,7 @@ pub fn encode_text_several(
         AreSeveral Text version ec_level text.now codes.items) }
     ensures accepts { (count : ℕ) → HoldSeveral Text version ec_level text.now count
         → IsOkUnless result OutOfMemory }
-    ensures causes { IfErr result (AreRefused Text version ec_level text.now) }
+    ensures causes { IfErr result (AreSymbolsRefused Text version ec_level text.now) }
 {
     encode_as(alloc, text.as_bytes(), Manner::Text, version, ec_level)
 }

@@ -12,7 +12,7 @@ use Rattle.qrcode_bits.specs.Manners.{rank}
 use Rattle.qrcode_bits.specs.Refusals.{data_limit}
 use Rattle.qrcode_bits.proofs.Shortness.{fitting_short}
 use Rattle.qrcode_charsets.specs.Laid.{cut_bytes, HasRoom}
-use Rattle.qrcode_charsets.specs.Shortest.{CanShow, NoneHas, IsRefused, NeedsText}
+use Rattle.qrcode_charsets.specs.Shortest.{CanShow, NoneHas, IsTextRefused, NeedsText}
 use Rattle.qrcode_charsets.specs.declared.sets.Charset.{Charset}
 use Rattle.qrcode_charsets.proofs.Lists.{can_room}
 use Rattle.qrcode_charsets.proofs.StandIns.{length-cut_bytes}
@@ -30,7 +30,7 @@ can_has sets v l text can none = let room = can_room sets v l text can in none r
 
 module _ {A : Type 0} (sets : List Charset) (from : Version) (l : EcLevel) (utf8 : List ℕ) where
   -- for a version that exists and a text within the limit, the causes are enough
-  pub needs_by_causes : (r : Result A QrError) → IsTrue (is_valid from) → length utf8 ≤ data_limit → IfErr r (IsRefused sets from l (chars utf8)) → NeedsText sets from l utf8 r
+  pub needs_by_causes : (r : Result A QrError) → IsTrue (is_valid from) → length utf8 ≤ data_limit → IfErr r (IsTextRefused sets from l (chars utf8)) → NeedsText sets from l utf8 r
   needs_by_causes (Ok x) valid short causes = record {
     no_version = λ no. absurd (true≢false (sym valid ∙ no));
     too_long = λ _ long. absurd (omega (arith, short, long));
@@ -82,6 +82,6 @@ module _ {A B : Type 0} (sets : List Charset) (from : Version) (l : EcLevel) (ut
     accepts = λ v _ above can. memory;
     causes = λ _ _. if_refused r memory;
   } where
-    if_refused : (r : Result B QrError) → IsOkUnless r OutOfMemory → IfErr r (IsRefused sets from l (chars utf8))
+    if_refused : (r : Result B QrError) → IsOkUnless r OutOfMemory → IfErr r (IsTextRefused sets from l (chars utf8))
     if_refused (Ok y) want = tt
     if_refused (Err e) want = inr (has, inl want)

@@ -7,7 +7,7 @@ use Rattle.qrcode_types.specs.declared.types.Version.{Version}
 use Rattle.qrcode_bits.specs.Cuts.{IsCutIn}
 use Rattle.qrcode_bits.specs.declared.optimize.Segment.{Segment}
 use Rattle.qrcode_charsets.specs.Charsets.{IsWritten, Has}
-use Rattle.qrcode_charsets.specs.Fronts.{has_front, modes_of}
+use Rattle.qrcode_charsets.specs.Fronts.{has_front, charset_modes}
 use Rattle.qrcode_charsets.specs.Laid.{cut_bytes, IsLaid, IsMeasured, NoneLaid, IsLeastLaid, less_of}
 use Rattle.qrcode_charsets.specs.Shortest.{IsAt}
 use Rattle.qrcode_charsets.specs.declared.sets.Charset.{Charset}
@@ -29,10 +29,10 @@ no_front c v text none_at used laid = true≢false (sym laid.front_exists ∙ no
 pub no_bytes : (c : Charset) (v : Version) (text : List ℕ) → ¬ Has c text → (used : ℕ) → ¬ IsLaid c v text used
 no_bytes c v text none_at used laid = none_at (laid.bytes, laid.written)
 
-pub no_cut : (c : Charset) (v : Version) (text bytes : List ℕ) → IsWritten c text bytes → ((ss : List Segment) → ¬ IsCutIn (modes_of c) v (cut_bytes c bytes) ss) → (used : ℕ) → ¬ IsLaid c v text used
+pub no_cut : (c : Charset) (v : Version) (text bytes : List ℕ) → IsWritten c text bytes → ((ss : List Segment) → ¬ IsCutIn (charset_modes c) v (cut_bytes c bytes) ss) → (used : ℕ) → ¬ IsLaid c v text used
 no_cut c v text bytes written none used laid =
     let same = written_one_way c text bytes laid.bytes written laid.written in
-    none laid.segments (subst (λ b. IsCutIn (modes_of c) v (cut_bytes c b) laid.segments) same laid.cut)
+    none laid.segments (subst (λ b. IsCutIn (charset_modes c) v (cut_bytes c b) laid.segments) same laid.cut)
 
 -- ---- bits, set by set
 abbrev pub IsLeastOf : List Charset → Version → List ℕ → ℕ → Option Measured → Type 0

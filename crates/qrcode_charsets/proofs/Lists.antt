@@ -22,7 +22,7 @@ use Rattle.qrcode_bits.proofs.Endings.{terminated-ending, ending-is_end, read_as
 use Rattle.qrcode_bits.proofs.LeastCuts.{AreAmong}
 use Rattle.qrcode_bits.proofs.ShownTexts.{segments_shown}
 use Rattle.qrcode_charsets.specs.Charsets.{character, IsWritten}
-use Rattle.qrcode_charsets.specs.Fronts.{front, has_front, modes_of}
+use Rattle.qrcode_charsets.specs.Fronts.{front, has_front, charset_modes}
 use Rattle.qrcode_charsets.specs.Laid.{bits_of, cut_bytes, IsLaid, IsBestCut, IsMeasured, IsLeastLaid, HasRoom}
 use Rattle.qrcode_charsets.specs.Shortest.{IsWriting, CanShow}
 use Rattle.qrcode_charsets.specs.Shown.{ArePiecesShown, ShowsIn}
@@ -36,7 +36,7 @@ use Rattle.qrcode_charsets.proofs.StandIns.{stand_in_cut}
 use Rattle.qrcode_charsets.proofs.Writings.{written_one_way, written_split}
 
 -- segments that are shown as UTF-8
-in_utf8 : (c : Charset) → modes_of c ≡ text_modes → ((text bytes : List ℕ) → all_scalars text ≡ true → encode_utf8_all text ≡ bytes → IsWritten c text bytes) → (ps : List Piece) (text : List ℕ)
+in_utf8 : (c : Charset) → charset_modes c ≡ text_modes → ((text bytes : List ℕ) → all_scalars text ≡ true → encode_utf8_all text ≡ bytes → IsWritten c text bytes) → (ps : List Piece) (text : List ℕ)
     → assumed.ArePiecesShown ps text → ArePiecesShown c ps text
 in_utf8 c e is [] text h = h
 in_utf8 c e is (p ∷ ps) text h =
@@ -64,7 +64,7 @@ utf8_shown v text bytes ss s e least =
     let utf8 : IsUtf8 bytes = (text, (s, e)) in
     subst (assumed.ArePiecesShown (pieces_of bytes ss)) same (segments_shown Text v bytes ss refl utf8 least)
 
-segments_are_shown : (c : Charset) → modes_of c ≡ text_modes → (v : Version) (text bytes : List ℕ) (ss : List Segment) → IsWritten c text bytes → IsLeastCutIn text_modes v bytes ss
+segments_are_shown : (c : Charset) → charset_modes c ≡ text_modes → (v : Version) (text bytes : List ℕ) (ss : List Segment) → IsWritten c text bytes → IsLeastCutIn text_modes v bytes ss
     → ArePiecesShown c (pieces_of bytes ss) text
 segments_are_shown Unmarked m v text bytes ss w least = in_utf8 Unmarked refl (λ text bytes s e. (s, e)) (pieces_of bytes ss) text (utf8_shown v text bytes ss w.0 w.1 least)
 segments_are_shown Utf8 m v text bytes ss w least = in_utf8 Utf8 refl (λ text bytes s e. (s, e)) (pieces_of bytes ss) text (utf8_shown v text bytes ss w.0 w.1 least)
@@ -74,22 +74,22 @@ segments_are_shown (OneByte page) m v text bytes ss w least =
 segments_are_shown ShiftJis m v text bytes ss w least = absurd (true≢false (ap (λ set. is_among set Kanji) m))
 
 -- the other sets have the modes for text
-pub text_set : (c : Charset) → ¬ (c ≡ ShiftJis) → (modes_of c ≡ text_modes) × ((b : List ℕ) → cut_bytes c b ≡ b)
+pub text_set : (c : Charset) → ¬ (c ≡ ShiftJis) → (charset_modes c ≡ text_modes) × ((b : List ℕ) → cut_bytes c b ≡ b)
 text_set Unmarked pairs = (refl, λ b. refl)
 text_set Utf8 pairs = (refl, λ b. refl)
 text_set (OneByte p) pairs = (refl, λ b. refl)
 text_set ShiftJis pairs = absurd (pairs refl)
 
 -- so such a cut is the best one
-pub best_cut : (c : Charset) → modes_of c ≡ text_modes → ((b : List ℕ) → cut_bytes c b ≡ b) → (v : Version) (bytes : List ℕ) (ss : List Segment) → IsLeastCutIn text_modes v bytes ss → IsBestCut c v bytes ss
+pub best_cut : (c : Charset) → charset_modes c ≡ text_modes → ((b : List ℕ) → cut_bytes c b ≡ b) → (v : Version) (bytes : List ℕ) (ss : List Segment) → IsLeastCutIn text_modes v bytes ss → IsBestCut c v bytes ss
 best_cut c m same v bytes ss least = record {
   cut = least.reached.cut;
-  laid = subst (λ b. IsCutIn (modes_of c) v b ss) (sym (same bytes)) (subst (λ set. IsCutIn set v bytes ss) (sym m) least.reached);
+  laid = subst (λ b. IsCutIn (charset_modes c) v b ss) (sym (same bytes)) (subst (λ set. IsCutIn set v bytes ss) (sym m) least.reached);
   shown = λ text w. segments_are_shown c m v text bytes ss w least;
-  least = λ others cut. least.least others (subst (λ set. IsCutIn set v bytes others) m (subst (λ b. IsCutIn (modes_of c) v b others) (same bytes) cut));
+  least = λ others cut. least.least others (subst (λ set. IsCutIn set v bytes others) m (subst (λ b. IsCutIn (charset_modes c) v b others) (same bytes) cut));
 }
 
-pub best_cuts : {V : Type 0} (items : V → List Segment) (c : Charset) → modes_of c ≡ text_modes → ((b : List ℕ) → cut_bytes c b ≡ b) → (v : Version) (bytes : List ℕ) (r : Result V QrError) → IfOk r (λ x. IsLeastCutIn text_modes v bytes (items x))
+pub best_cuts : {V : Type 0} (items : V → List Segment) (c : Charset) → charset_modes c ≡ text_modes → ((b : List ℕ) → cut_bytes c b ≡ b) → (v : Version) (bytes : List ℕ) (r : Result V QrError) → IfOk r (λ x. IsLeastCutIn text_modes v bytes (items x))
     → IfOk r (λ x. IsBestCut c v bytes (items x))
 best_cuts items c m same v bytes (Ok x) least = best_cut c m same v bytes _ least
 best_cuts items c m same v bytes (Err e) least = tt
@@ -142,7 +142,7 @@ module _ (v : Version) (l : EcLevel) (text : List ℕ) (m : Measured) (valid : I
 -- ---- other lists
 -- pieces of a text in a set are a cut of what is divided in place of their bytes
 cut_of : (c : Charset) (v : Version) (text : List ℕ) (ps : List Piece) → AllByRecursion (IsReadable v) ps → ArePiecesShown c ps text
-    → (segments : List Segment) × (IsCutIn (modes_of c) v (cut_bytes c (chunks ps)) segments × (total_cost v segments ≤ length (written v ps)))
+    → (segments : List Segment) × (IsCutIn (charset_modes c) v (cut_bytes c (chunks ps)) segments × (total_cost v segments ≤ length (written v ps)))
 cut_of Unmarked v text ps h shown = pieces_cut text_modes v ps h (shown_modes Unmarked ps text shown)
 cut_of Utf8 v text ps h shown = pieces_cut text_modes v ps h (shown_modes Utf8 ps text shown)
 cut_of (OneByte p) v text ps h shown = pieces_cut text_modes v ps h (shown_modes (OneByte p) ps text shown)
@@ -196,7 +196,7 @@ laid_of v text m measured = record {
 pub measured_least : (v : Version) (text : List ℕ) (m : Measured) (used : ℕ) → IsMeasured v text m → IsLaid m.set v text used → m.used ≤ used
 measured_least v text m used measured laid =
     let same : laid.bytes ≡ m.bytes.items = written_one_way m.set text m.bytes.items laid.bytes measured.written laid.written in
-    omega (arith, measured.length, laid.length, measured.best.least laid.segments (subst (λ b. IsCutIn (modes_of m.set) v (cut_bytes m.set b) laid.segments) same laid.cut))
+    omega (arith, measured.length, laid.length, measured.best.least laid.segments (subst (λ b. IsCutIn (charset_modes m.set) v (cut_bytes m.set b) laid.segments) same laid.cut))
 
 -- a version that has room for the text has room for the fewest bits
 pub least_room : (sets : List Charset) (v : Version) (l : EcLevel) (text : List ℕ) (m : Measured) → IsLeastLaid sets v text (length sets) m → HasRoom sets v l text → m.used ≤ capacity v l

@@ -7,7 +7,7 @@ use Rattle.std.proofs.lemmas.Bool.{and_parts, or_cases, not-true, both_ways, eqb
 use Rattle.std.proofs.Math.Utf8.{low_scalar}
 use Rattle.std.proofs.lemmas.List.{get_or_past}
 use Rattle.qrcode_charsets.specs.Table.{character_table}
-use Rattle.qrcode_charsets.specs.Charsets.{page_designator, characters, character, CharactersAreApart}
+use Rattle.qrcode_charsets.specs.Charsets.{page_designator, page_characters, character, CharactersAreApart}
 use Rattle.qrcode_charsets.specs.declared.sets.CodePage.{CodePage}
 use Rattle.qrcode_charsets.specs.declared.table.TheConstants.{CHARACTERS}
 
@@ -38,8 +38,8 @@ all_rows : list_all is_row character_table ≡ true
 unfolding character_table
 all_rows = refl
 
-row_of : (p : CodePage) → (is_apart (characters p) ≡ true) × (list_all is_cell (characters p) ≡ true) × (length (characters p) ≤ 128)
-unfolding characters
+row_of : (p : CodePage) → (is_apart (page_characters p) ≡ true) × (list_all is_cell (page_characters p) ≡ true) × (length (page_characters p) ≤ 128)
+unfolding page_characters
 row_of p =
     let row = slice_index_or character_table (page_designator p - 3) [] in
     let two = and_parts (is_apart row) (list_all is_cell row && nat_le (length row) 128) (read_passes is_row character_table [] (page_designator p - 3) all_rows refl) in
@@ -47,10 +47,10 @@ row_of p =
     (two.0, three.0, leb-true (length row) 128 three.1)
 
 -- a character in a cell
-pub cell_bounds : (p : CodePage) (i : ℕ) → ¬ (get_or (characters p) i 0 ≡ 0) → (128 ≤ get_or (characters p) i 0) × (get_or (characters p) i 0 < 0xD800)
+pub cell_bounds : (p : CodePage) (i : ℕ) → ¬ (get_or (page_characters p) i 0 ≡ 0) → (128 ≤ get_or (page_characters p) i 0) × (get_or (page_characters p) i 0 < 0xD800)
 cell_bounds p i some =
-    let c = get_or (characters p) i 0 in
-    elim (or_cases _ _ (read_passes is_cell (characters p) 0 i (row_of p).1 refl)) [
+    let c = get_or (page_characters p) i 0 in
+    elim (or_cases _ _ (read_passes is_cell (page_characters p) 0 i (row_of p).1 refl)) [
       | inl none ↦ absurd (some (eqb-true c 0 none))
       | inr within ↦ let both = and_parts (nat_le 128 c) (nat_lt c 0xD800) within in (leb-true 128 c both.0, ltb-true c 0xD800 both.1)
     ]
@@ -75,13 +75,13 @@ apart_at (x ∷ xs) (suc i) (suc j) h e some = ap suc (apart_at xs i j (and_part
 
 -- what it means that a byte has a character
 abbrev pub HasCharacter : CodePage → ℕ → ℕ → Type 0
-HasCharacter p b c = ((b < 128) × (b ≡ c)) ⊎ ((128 ≤ b) × (get_or (characters p) (b - 128) 0 ≡ c) × ¬ (c ≡ 0))
+HasCharacter p b c = ((b < 128) × (b ≡ c)) ⊎ ((128 ≤ b) × (get_or (page_characters p) (b - 128) 0 ≡ c) × ¬ (c ≡ 0))
 
-above : (p : CodePage) (b : ℕ) → 128 ≤ b → ¬ (get_or (characters p) (b - 128) 0 ≡ 0) → character p b ≡ Some (get_or (characters p) (b - 128) 0)
-above p b high some = cond-false (nat_lt b 128) _ _ (le-ltb b 128 high) ∙ cond-false (get_or (characters p) (b - 128) 0 == 0) _ _ (ne_eqb _ 0 some)
+above : (p : CodePage) (b : ℕ) → 128 ≤ b → ¬ (get_or (page_characters p) (b - 128) 0 ≡ 0) → character p b ≡ Some (get_or (page_characters p) (b - 128) 0)
+above p b high some = cond-false (nat_lt b 128) _ _ (le-ltb b 128 high) ∙ cond-false (get_or (page_characters p) (b - 128) 0 == 0) _ _ (ne_eqb _ 0 some)
 
-nothing : (p : CodePage) (b : ℕ) → 128 ≤ b → get_or (characters p) (b - 128) 0 ≡ 0 → character p b ≡ None
-nothing p b high none = cond-false (nat_lt b 128) _ _ (le-ltb b 128 high) ∙ cond-true (get_or (characters p) (b - 128) 0 == 0) _ _ (eq-eqb _ 0 none)
+nothing : (p : CodePage) (b : ℕ) → 128 ≤ b → get_or (page_characters p) (b - 128) 0 ≡ 0 → character p b ≡ None
+nothing p b high none = cond-false (nat_lt b 128) _ _ (le-ltb b 128 high) ∙ cond-true (get_or (page_characters p) (b - 128) 0 == 0) _ _ (eq-eqb _ 0 none)
 
 low_is : (p : CodePage) (b : ℕ) → b < 128 → character p b ≡ Some b
 low_is p b low = cond-true (nat_lt b 128) (Some b) _ (lt-ltb b 128 low)
@@ -95,10 +95,10 @@ no_item o a e f = cc
 pub has_character : (p : CodePage) (b c : ℕ) → character p b ≡ Some c → HasCharacter p b c
 has_character p b c e = elim (cases_lt b 128) [
   | inl low ↦ inl (low, same_item (character p b) b c (low_is p b low) e)
-  | inr high ↦ elim (cases_eq (get_or (characters p) (b - 128) 0) 0) [
+  | inr high ↦ elim (cases_eq (get_or (page_characters p) (b - 128) 0) 0) [
     | inl none ↦ absurd (no_item (character p b) c (nothing p b high none) e)
     | inr some ↦
-        let is : get_or (characters p) (b - 128) 0 ≡ c = same_item (character p b) (get_or (characters p) (b - 128) 0) c (above p b high some) e in
+        let is : get_or (page_characters p) (b - 128) 0 ≡ c = same_item (character p b) (get_or (page_characters p) (b - 128) 0) c (above p b high some) e in
         inr (high, is, λ none. some (is ∙ none))
   ]
 ]
@@ -110,7 +110,7 @@ is_character p b c h = elim h [
 ]
 
 -- an ASCII character is in no cell
-not_both : (p : CodePage) (a b c : ℕ) → a < 128 → a ≡ c → get_or (characters p) (b - 128) 0 ≡ c → ¬ (c ≡ 0) → ⊥
+not_both : (p : CodePage) (a b c : ℕ) → a < 128 → a ≡ c → get_or (page_characters p) (b - 128) 0 ≡ c → ¬ (c ≡ 0) → ⊥
 not_both p a b c low e f some = omega (arith, low, e, f, (cell_bounds p (b - 128) (λ none. some (sym f ∙ none))).0)
 
 pub characters_apart : CharactersAreApart
@@ -122,23 +122,23 @@ characters_apart p a b c e f = elim (has_character p a c e) [
   | inr cell ↦ elim (has_character p b c f) [
     | inl low ↦ absurd (not_both p b a c low.0 low.1 cell.1 cell.2)
     | inr both ↦
-        let same = apart_at (characters p) (a - 128) (b - 128) (row_of p).0 (cell.1 ∙ sym both.1) (λ none. cell.2 (sym cell.1 ∙ none)) in
+        let same = apart_at (page_characters p) (a - 128) (b - 128) (row_of p).0 (cell.1 ∙ sym both.1) (λ none. cell.2 (sym cell.1 ∙ none)) in
         omega (arith, same, cell.0, both.0)
   ]
 ]
 
 -- a character that is no ASCII and in no cell has no byte
-pub no_byte : (p : CodePage) (c : ℕ) → 128 ≤ c → ((i : ℕ) → i < 128 → ¬ (get_or (characters p) i 0 ≡ c)) → (b : ℕ) → ¬ (character p b ≡ Some c)
+pub no_byte : (p : CodePage) (c : ℕ) → 128 ≤ c → ((i : ℕ) → i < 128 → ¬ (get_or (page_characters p) i 0 ≡ c)) → (b : ℕ) → ¬ (character p b ≡ Some c)
 no_byte p c high none b e = elim (has_character p b c e) [
   | inl low ↦ omega (arith, low.0, low.1, high)
   | inr cell ↦ elim (cases_lt (b - 128) 128) [
     | inl inside ↦ none (b - 128) inside cell.1
-    | inr past ↦ cell.2 (sym cell.1 ∙ get_or_past (characters p) (b - 128) 0 (omega (arith, past, (row_of p).2)))
+    | inr past ↦ cell.2 (sym cell.1 ∙ get_or_past (page_characters p) (b - 128) 0 (omega (arith, past, (row_of p).2)))
   ]
 ]
 
 -- what is read from a cell is the character of the byte
-pub character_read : (p : CodePage) (b c : ℕ) → 128 ≤ b → c ≡ get_or (characters p) (b - 128) 0 → ¬ (c ≡ 0) → Some c ≡ character p b
+pub character_read : (p : CodePage) (b c : ℕ) → 128 ≤ b → c ≡ get_or (page_characters p) (b - 128) 0 → ¬ (c ≡ 0) → Some c ≡ character p b
 character_read p b c high cell some = ap Some cell ∙ sym (above p b high (λ none. some (cell ∙ none)))
 
 -- a character of a byte is one of Unicode

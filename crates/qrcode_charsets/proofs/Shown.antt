@@ -19,7 +19,7 @@ use Rattle.qrcode_bits.proofs.Spellings.{normal_small, same_text}
 use Rattle.qrcode.specs.Reading.{EncodesBits}
 use Rattle.qrcode.proofs.Readings.{bits_are_read_one_way}
 use Rattle.qrcode_charsets.specs.Charsets.{IsWritten}
-use Rattle.qrcode_charsets.specs.Fronts.{front, modes_of}
+use Rattle.qrcode_charsets.specs.Fronts.{front, charset_modes}
 use Rattle.qrcode_charsets.specs.Shown.{ArePiecesShown, ShowsIn, ShowsOnlyIn, ShowsTextOnly, IsShownAs}
 use Rattle.qrcode_charsets.specs.declared.sets.Charset.{Charset}
 use Rattle.qrcode_charsets.specs.declared.sets.Charset.TheVariants.{Unmarked}
@@ -34,7 +34,7 @@ shown_written c (p ∷ ps) text h =
     let more = h.2 in
     subst (λ t. IsWritten c t (chunks (p ∷ ps))) (sym more.0) (written-append c h.0 h.1 p.chunk (chunks ps) more.1.0.written (shown_written c ps h.1 more.1.1))
 
-pub shown_modes : (c : Charset) (ps : List Piece) (text : List ℕ) → ArePiecesShown c ps text → AreOf (modes_of c) ps
+pub shown_modes : (c : Charset) (ps : List Piece) (text : List ℕ) → ArePiecesShown c ps text → AreOf (charset_modes c) ps
 shown_modes c [] text h = tt
 shown_modes c (p ∷ ps) text h = (h.2.1.0.mode, shown_modes c ps h.1 h.2.1.1)
 

@@ -29,14 +29,14 @@ page_designator Windows1251 = 22
 page_designator Windows1252 = 23
 page_designator Windows1256 = 24
 
-unfoldable pub characters : CodePage → List ℕ  -- the characters of the bytes from 128 on, 0 for a byte that has none
-characters p = slice_index_or character_table (page_designator p - 3) []
+unfoldable pub page_characters : CodePage → List ℕ  -- the characters of the bytes from 128 on, 0 for a byte that has none
+page_characters p = slice_index_or character_table (page_designator p - 3) []
 
 -- The character of a byte, if it has one: below 128 that of ASCII, from 128 on that of the table.
 abbrev pub character : CodePage → ℕ → Option ℕ
 character p b =
     if nat_lt b 128 then Some b else
-    (if slice_index (characters p) (b - 128) == 0 then None else Some (slice_index (characters p) (b - 128)))
+    (if slice_index (page_characters p) (b - 128) == 0 then None else Some (slice_index (page_characters p) (b - 128)))
 
 abbrev pub big_end : ℕ → List ℕ  -- sixteen bits as two bytes, the big end first
 big_end unit = unit / 256 ∷ unit % 256 ∷ []

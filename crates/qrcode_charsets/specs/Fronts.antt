@@ -24,8 +24,8 @@ has_front v (OneByte p) = not (is_micro v)
 has_front v ShiftJis = not (is_micro v)
 
 -- The modes that write a text in the set.
-abbrev pub modes_of : Charset → Modes
-modes_of Unmarked = text_modes
-modes_of Utf8 = text_modes
-modes_of (OneByte p) = text_modes
-modes_of ShiftJis = all_modes
+abbrev pub charset_modes : Charset → Modes
+charset_modes Unmarked = text_modes
+charset_modes Utf8 = text_modes
+charset_modes (OneByte p) = text_modes
+charset_modes ShiftJis = all_modes

@@ -11,7 +11,7 @@ use Rattle.qrcode_bits.specs.declared.optimize.Segment.{Segment}
 use Rattle.qrcode.specs.Code.{Code}
 use Rattle.qrcode.specs.Reading.{EncodesBits}
 use Rattle.qrcode_charsets.specs.Charsets.{IsWritten}
-use Rattle.qrcode_charsets.specs.Fronts.{front, has_front, modes_of}
+use Rattle.qrcode_charsets.specs.Fronts.{front, has_front, charset_modes}
 use Rattle.qrcode_charsets.specs.ShiftJis.{stand_in}
 use Rattle.qrcode_charsets.specs.Shortest.{IsAt}
 use Rattle.qrcode_charsets.specs.Shown.{ArePiecesShown}
@@ -35,15 +35,15 @@ pub record IsLaid (c : Charset) (v : Version) (text : List ℕ) (used : ℕ) : T
   pub bytes : List ℕ
   pub written : IsWritten c text bytes
   pub segments : List Segment
-  pub cut : IsCutIn (modes_of c) v (cut_bytes c bytes) segments
+  pub cut : IsCutIn (charset_modes c) v (cut_bytes c bytes) segments
   pub length : used ≡ length (front c) + total_cost v segments
 
 -- segments in which a reader shows the bytes as their text, and no such segments take fewer bits
 pub record IsBestCut (c : Charset) (v : Version) (bytes : List ℕ) (segments : List Segment) : Type 0 where
   pub cut : IsCut v bytes segments
-  pub laid : IsCutIn (modes_of c) v (cut_bytes c bytes) segments
+  pub laid : IsCutIn (charset_modes c) v (cut_bytes c bytes) segments
   pub shown : (text : List ℕ) → IsWritten c text bytes → ArePiecesShown c (pieces_of bytes segments) text
-  pub least : (others : List Segment) → IsCutIn (modes_of c) v (cut_bytes c bytes) others → total_cost v segments ≤ total_cost v others
+  pub least : (others : List Segment) → IsCutIn (charset_modes c) v (cut_bytes c bytes) others → total_cost v segments ≤ total_cost v others
 
 -- these bytes in such segments
 pub record IsCutOf (c : Charset) (v : Version) (given : List ℕ) (m : Measured) : Type 0 where

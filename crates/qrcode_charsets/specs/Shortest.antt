@@ -85,8 +85,8 @@ abbrev pub NoneHas : List Charset → List ℕ → Type 0  -- each of the sets l
 NoneHas sets text = (place : ℕ) (c : Charset) → IsAt sets place c → ¬ Has c text
 
 -- why there is no symbol, if there is a version `from` and the text is not too long: the first of these causes that applies, or memory ran out
-abbrev pub IsRefused : List Charset → Version → EcLevel → List ℕ → QrError → Type 0
-IsRefused sets from l text e =
+abbrev pub IsTextRefused : List Charset → Version → EcLevel → List ℕ → QrError → Type 0
+IsTextRefused sets from l text e =
     IfCause (NoneHas sets text) (e ≡ UnsupportedCharacterSet)
     ((e ≡ OutOfMemory) ⊎ ((e ≡ DataTooLong) × ((v : Version) → rank from ≤ rank v → ¬ CanShow sets v l text)))
 
@@ -95,4 +95,4 @@ pub record NeedsText {A : Type 0} (sets : List Charset) (from : Version) (l : Ec
   pub no_version : is_valid from ≡ false → result ≡ Err InvalidVersion
   pub too_long : IsTrue (is_valid from) → data_limit < length utf8 → result ≡ Err DataTooLong
   pub accepts : (v : Version) → IsTrue (is_valid from) → rank from ≤ rank v → CanShow sets v l (chars utf8) → IsOkUnless result OutOfMemory
-  pub causes : IsTrue (is_valid from) → length utf8 ≤ data_limit → IfErr result (IsRefused sets from l (chars utf8))
+  pub causes : IsTrue (is_valid from) → length utf8 ≤ data_limit → IfErr result (IsTextRefused sets from l (chars utf8))

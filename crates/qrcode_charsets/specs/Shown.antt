@@ -11,12 +11,12 @@ use Rattle.qrcode_bits.specs.Spelling.{IsReadAs}
 use Rattle.qrcode_bits.specs.Written.{Piece}
 use Rattle.qrcode.specs.Drawing.{IsMaskOf}
 use Rattle.qrcode_charsets.specs.Charsets.{IsWritten}
-use Rattle.qrcode_charsets.specs.Fronts.{front, has_front, modes_of}
+use Rattle.qrcode_charsets.specs.Fronts.{front, has_front, charset_modes}
 use Rattle.qrcode_charsets.specs.declared.sets.Charset.{Charset}
 
 -- A reader decodes the bytes of a segment in the set. Nothing is said about segments in other modes than those of the set.
 pub record IsPieceShown (c : Charset) (p : Piece) (text : List ℕ) : Type 0 where
-  pub mode : IsTrue (is_among (modes_of c) p.mode)
+  pub mode : IsTrue (is_among (charset_modes c) p.mode)
   pub written : IsWritten c text p.chunk
 
 abbrev pub ArePiecesShown : Charset → List Piece → List ℕ → Type 0  -- each segment is shown on its own, one after the other

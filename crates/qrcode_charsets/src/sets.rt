@@ -170,7 +170,7 @@ impl CodePage {
     // Returns the character of the byte 128 + `place`, or U+0000 if it has none.
     fn cell(self, place: usize) -> char
         requires { place < 128 }
-        ensures { result ≡ slice_index (charsets.characters self) place }
+        ensures { result ≡ slice_index (charsets.page_characters self) place }
     {
         CHARACTERS[self.designator() as usize - 3][place]
     }

@@ -7,7 +7,7 @@ use Rattle.std.proofs.lemmas.List.Elements.{All-nil, All-cons}
 use Rattle.std.proofs.lemmas.List.Splits.{slice_split_at}
 use Rattle.std.proofs.lemmas.Bool.Decides.{nat_tests}
 use Rattle.qrcode_contents.specs.fields.ContentLines.{fold_break, next_column, folded_from, line_text, content_text, unfolded, read_content}
-use Rattle.qrcode_contents.specs.fields.Entries.{Entry, single, is_filled, filled, value_of}
+use Rattle.qrcode_contents.specs.fields.Entries.{Entry, single, is_filled, filled_entries, value_of}
 use Rattle.qrcode_contents.specs.fields.EntryTests.{are_distinct}
 use Rattle.qrcode_contents.specs.fields.Characters.{before, after}
 use Rattle.qrcode_contents.specs.fields.Links.{Parameter}
@@ -129,13 +129,13 @@ first_read key value rest is starts =
 abbrev pub behind_last : List Entry
 behind_last = single [] [] ∷ []
 
-lines_by : (key value : List ℕ) (ps : List Parameter) (some : Bool) → is_filled value ≡ some → IsContent (key, value) → AreContent ps → read_content (content_text ps) ≡ filled (entries_of ps) ++ behind_last → read_content (content_text ((key, value) ∷ ps)) ≡ filled (entries_of ((key, value) ∷ ps)) ++ behind_last
+lines_by : (key value : List ℕ) (ps : List Parameter) (some : Bool) → is_filled value ≡ some → IsContent (key, value) → AreContent ps → read_content (content_text ps) ≡ filled_entries (entries_of ps) ++ behind_last → read_content (content_text ((key, value) ∷ ps)) ≡ filled_entries (entries_of ((key, value) ∷ ps)) ++ behind_last
 lines_by key value ps true is are later_are later =
     rw is (first_read key value (content_text ps) are (content_starts ps later_are) ∙ ap (λ xs. single key value ∷ xs) later)
 lines_by key value ps false is are later_are later = rw is later
 
 -- lines are read back, without those that have no value
-pub lines_read : (ps : List Parameter) → AreContent ps → read_content (content_text ps) ≡ filled (entries_of ps) ++ behind_last
+pub lines_read : (ps : List Parameter) → AreContent ps → read_content (content_text ps) ≡ filled_entries (entries_of ps) ++ behind_last
 unfolding read_content unfolded
 lines_read [] are = refl
 lines_read ((key, value) ∷ ps) are = lines_by key value ps (is_filled value) refl are.0 are.1 (lines_read ps are.1)
@@ -147,4 +147,4 @@ value_of-last key (e ∷ es) some = ap (λ xs. if bytes_eq key e.0 then slice_in
 -- a value is read back
 pub content_read : (key : List ℕ) (ps : List Parameter) → AreContent ps → bytes_eq key [] ≡ false → are_distinct (entries_of ps) ≡ true → value_of key (read_content (content_text ps)) ≡ value_of key (entries_of ps)
 content_read key ps are some distinct =
-    ap (value_of key) (lines_read ps are) ∙ value_of-last key (filled (entries_of ps)) some ∙ part_of-filled key 0 (entries_of ps) distinct
+    ap (value_of key) (lines_read ps are) ∙ value_of-last key (filled_entries (entries_of ps)) some ∙ part_of-filled key 0 (entries_of ps) distinct

@@ -10,7 +10,7 @@ use Rattle.qrcode_contents.specs.declared.fields.escapes.Escapes.{Escapes}
 use Rattle.qrcode_contents.specs.declared.fields.escapes.Escapes.TheVariants.{Marks}
 use Rattle.qrcode_contents.specs.fields.Characters.{before, after}
 use Rattle.qrcode_contents.specs.fields.Escapes.{escaped, unescaped, pieces}
-use Rattle.qrcode_contents.specs.fields.Entries.{Entry, filled, is_filled, parts_text, entry_text, marked_text, read_entry, read_until_empty, read_entries, behind, part_of}
+use Rattle.qrcode_contents.specs.fields.Entries.{Entry, filled_entries, is_filled, parts_text, entry_text, marked_text, read_entry, read_until_empty, read_entries, after_start, part_with_key}
 use Rattle.qrcode_contents.specs.fields.EntryTests.{is_key, are_entries, are_distinct}
 use Rattle.qrcode_contents.proofs.Pieces.{IsPiece, IsEscaped, comma_escaped, semicolon_escaped, IsPiece-nil, IsPiece-cons, IsPiece-escaped, IsPiece-value, unescaped-escaped}
 
@@ -127,11 +127,11 @@ entry_then key part parts rest entries is later =
 later_assoc : (key part : List ℕ) (parts : List (List ℕ)) (later : List ℕ) → entry_text Marks 44 (key, part ∷ parts) ++ 59 ∷ [] ++ later ++ 59 ∷ [] ≡ entry_text Marks 44 (key, part ∷ parts) ++ 59 ∷ (later ++ 59 ∷ [])
 later_assoc key part parts later = simp append_assoc
 
-entry_or_not : (key part : List ℕ) (parts : List (List ℕ)) (entries : List Entry) (b : Bool) → list_any is_filled (part ∷ parts) ≡ b → is_key key ≡ true → read_until_empty (pieces 59 (flat_map marked_text entries ++ 59 ∷ [])) ≡ Some (filled entries) → read_until_empty (pieces 59 (flat_map marked_text ((key, part ∷ parts) ∷ entries) ++ 59 ∷ [])) ≡ Some (filled ((key, part ∷ parts) ∷ entries))
+entry_or_not : (key part : List ℕ) (parts : List (List ℕ)) (entries : List Entry) (b : Bool) → list_any is_filled (part ∷ parts) ≡ b → is_key key ≡ true → read_until_empty (pieces 59 (flat_map marked_text entries ++ 59 ∷ [])) ≡ Some (filled_entries entries) → read_until_empty (pieces 59 (flat_map marked_text ((key, part ∷ parts) ∷ entries) ++ 59 ∷ [])) ≡ Some (filled_entries ((key, part ∷ parts) ∷ entries))
 entry_or_not key part parts entries true is key_is later =
     ap (λ xs. read_until_empty (pieces 59 (xs ++ flat_map marked_text entries ++ 59 ∷ []))) (marked_text-filled key (part ∷ parts) is)
     ∙ ap (λ xs. read_until_empty (pieces 59 xs)) (later_assoc key part parts (flat_map marked_text entries))
-    ∙ entry_then key part parts (flat_map marked_text entries ++ 59 ∷ []) (filled entries) key_is later
+    ∙ entry_then key part parts (flat_map marked_text entries ++ 59 ∷ []) (filled_entries entries) key_is later
     ∙ ap Some (sym (cond-true _ _ _ is))
 entry_or_not key part parts entries false is key_is later =
     ap (λ xs. read_until_empty (pieces 59 (xs ++ flat_map marked_text entries ++ 59 ∷ []))) (marked_text-empty key (part ∷ parts) is)
@@ -139,7 +139,7 @@ entry_or_not key part parts entries false is key_is later =
     ∙ ap Some (sym (cond-false _ _ _ is))
 
 -- entries up to an empty one are read back, without those whose parts are all empty
-pub entries_read : (entries : List Entry) → are_entries entries ≡ true → read_until_empty (pieces 59 (flat_map marked_text entries ++ 59 ∷ [])) ≡ Some (filled entries)
+pub entries_read : (entries : List Entry) → are_entries entries ≡ true → read_until_empty (pieces 59 (flat_map marked_text entries ++ 59 ∷ [])) ≡ Some (filled_entries entries)
 entries_read [] are = ap read_until_empty ((IsPiece-nil 59 semicolon_escaped).before [])
 entries_read ((key, []) ∷ entries) are =
     let tests = and_parts (is_key key && false) _ are in
@@ -151,12 +151,12 @@ entries_read ((key, part ∷ parts) ∷ entries) are =
     entry_or_not key part parts entries (list_any is_filled (part ∷ parts)) refl key_is (entries_read entries tests.1)
 
 -- the bytes after a start
-behind_start : (start rest : List ℕ) → behind start (start ++ rest) ≡ Some rest
+behind_start : (start rest : List ℕ) → after_start start (start ++ rest) ≡ Some rest
 behind_start [] rest = refl
 behind_start (a ∷ start) rest = rw (eq-eqb a a refl) (behind_start start rest)
 
 -- the entries of a text are read back
-pub read_entries-text : (start : List ℕ) (entries : List Entry) → are_entries entries ≡ true → read_entries start (start ++ (flat_map marked_text entries ++ 59 ∷ [])) ≡ Some (filled entries)
+pub read_entries-text : (start : List ℕ) (entries : List Entry) → are_entries entries ≡ true → read_entries start (start ++ (flat_map marked_text entries ++ 59 ∷ [])) ≡ Some (filled_entries entries)
 unfolding read_entries
 read_entries-text start entries are =
     ap (option_and_then (λ bytes. read_until_empty (pieces 59 bytes))) (behind_start start _) ∙ entries_read entries are
@@ -170,13 +170,13 @@ no_part ([] ∷ parts) zero is = refl
 no_part ([] ∷ parts) (suc i) is = no_part parts i is
 no_part ((b ∷ part) ∷ parts) i is = let some : is_filled (b ∷ part) ≡ true = grind (arith, nat_tests) in cc
 
-no_entry : (key : List ℕ) (i : ℕ) (entries : List Entry) → list_any (λ later. bytes_eq key later.0) entries ≡ false → part_of key i entries ≡ []
+no_entry : (key : List ℕ) (i : ℕ) (entries : List Entry) → list_any (λ later. bytes_eq key later.0) entries ≡ false → part_with_key key i entries ≡ []
 no_entry key i [] is = refl
 no_entry key i (entry ∷ entries) is =
     let parts = neither (bytes_eq key entry.0) _ is in
     rw (parts.0) (no_entry key i entries parts.1)
 
-part_or_not : (key : List ℕ) (i : ℕ) (entry : Entry) (entries : List Entry) (b c : Bool) → list_any is_filled entry.1 ≡ b → bytes_eq key entry.0 ≡ c → list_any (λ later. bytes_eq entry.0 later.0) entries ≡ false → part_of key i (filled entries) ≡ part_of key i entries → part_of key i (filled (entry ∷ entries)) ≡ part_of key i (entry ∷ entries)
+part_or_not : (key : List ℕ) (i : ℕ) (entry : Entry) (entries : List Entry) (b c : Bool) → list_any is_filled entry.1 ≡ b → bytes_eq key entry.0 ≡ c → list_any (λ later. bytes_eq entry.0 later.0) entries ≡ false → part_with_key key i (filled_entries entries) ≡ part_with_key key i entries → part_with_key key i (filled_entries (entry ∷ entries)) ≡ part_with_key key i (entry ∷ entries)
 part_or_not key i entry entries true c says is others later =
     rw says (ap (λ x. if bytes_eq key entry.0 then get_or entry.1 i [] else x) later)
 part_or_not key i entry entries false true says is others later =
@@ -186,7 +186,7 @@ part_or_not key i entry entries false true says is others later =
 part_or_not key i entry entries false false says is others later = rw (says, is) later
 
 -- entries whose parts are all empty may be left out
-pub part_of-filled : (key : List ℕ) (i : ℕ) (entries : List Entry) → are_distinct entries ≡ true → part_of key i (filled entries) ≡ part_of key i entries
+pub part_of-filled : (key : List ℕ) (i : ℕ) (entries : List Entry) → are_distinct entries ≡ true → part_with_key key i (filled_entries entries) ≡ part_with_key key i entries
 part_of-filled key i [] are = refl
 part_of-filled key i (entry ∷ entries) are =
     let tests = and_parts _ _ are in

@@ -7,7 +7,7 @@ use Rattle.qrcode_contents.specs.declared.fields.errors.Field.TheVariants.{Uid, 
 use Rattle.qrcode_contents.specs.declared.fields.errors.Cause.TheVariants.{ControlCharacter, Range}
 use Rattle.qrcode_contents.specs.fields.Characters.{is_control, is_other_control}
 use Rattle.qrcode_contents.specs.fields.ContentLines.{content_text, structured, read_content}
-use Rattle.qrcode_contents.specs.fields.Entries.{Entry, single, is_filled, filled, read_or_none, value_of}
+use Rattle.qrcode_contents.specs.fields.Entries.{Entry, single, is_filled, filled_entries, read_or_none, value_of}
 use Rattle.qrcode_contents.specs.fields.Links.{Parameter}
 use Rattle.qrcode_contents.proofs.ContentParts.{IsPlain, part_read, one_plain, line_with, plain_nothing}
 use Rattle.qrcode_contents.proofs.ContentReading.{AreContent, AreContent-append, behind_last, lines_read}
@@ -113,22 +113,22 @@ last_content = (
 abbrev is_end : Parameter → Bool
 is_end p = bytes_eq (codes "END") p.0
 
-kept_by : (name key value : List ℕ) (ps : List Parameter) (rest later : List Entry) (some : Bool) → is_filled value ≡ some → is_end (key, value) ≡ false → before_end name (filled (entries_of ps) ++ rest) ≡ Some (filled (entries_of ps) ++ later) → before_end name (filled (entries_of ((key, value) ∷ ps)) ++ rest) ≡ Some (filled (entries_of ((key, value) ∷ ps)) ++ later)
+kept_by : (name key value : List ℕ) (ps : List Parameter) (rest later : List Entry) (some : Bool) → is_filled value ≡ some → is_end (key, value) ≡ false → before_end name (filled_entries (entries_of ps) ++ rest) ≡ Some (filled_entries (entries_of ps) ++ later) → before_end name (filled_entries (entries_of ((key, value) ∷ ps)) ++ rest) ≡ Some (filled_entries (entries_of ((key, value) ∷ ps)) ++ later)
 kept_by name key value ps rest later true is other kept = rw (is, other) (ap (option_map (λ xs. single key value ∷ xs)) kept)
 kept_by name key value ps rest later false is other kept = rw is kept
 
 -- lines that end no component are kept by `before_end`
-kept_lines : (name : List ℕ) (ps : List Parameter) (rest later : List Entry) → list_any is_end ps ≡ false → before_end name rest ≡ Some later → before_end name (filled (entries_of ps) ++ rest) ≡ Some (filled (entries_of ps) ++ later)
+kept_lines : (name : List ℕ) (ps : List Parameter) (rest later : List Entry) → list_any is_end ps ≡ false → before_end name rest ≡ Some later → before_end name (filled_entries (entries_of ps) ++ rest) ≡ Some (filled_entries (entries_of ps) ++ later)
 kept_lines name [] rest later none is = is
 kept_lines name ((key, value) ∷ ps) rest later none is =
     let parts = neither (is_end (key, value)) (list_any is_end ps) none in
     kept_by name key value ps rest later (is_filled value) refl parts.0 (kept_lines name ps rest later parts.1 is)
 
-filled_by : (key value : List ℕ) (ps qs : List Parameter) (some : Bool) → is_filled value ≡ some → filled (entries_of (ps ++ qs)) ≡ filled (entries_of ps) ++ filled (entries_of qs) → filled (entries_of ((key, value) ∷ (ps ++ qs))) ≡ filled (entries_of ((key, value) ∷ ps)) ++ filled (entries_of qs)
+filled_by : (key value : List ℕ) (ps qs : List Parameter) (some : Bool) → is_filled value ≡ some → filled_entries (entries_of (ps ++ qs)) ≡ filled_entries (entries_of ps) ++ filled_entries (entries_of qs) → filled_entries (entries_of ((key, value) ∷ (ps ++ qs))) ≡ filled_entries (entries_of ((key, value) ∷ ps)) ++ filled_entries (entries_of qs)
 filled_by key value ps qs true is later = rw is (ap (λ xs. single key value ∷ xs) later)
 filled_by key value ps qs false is later = rw is later
 
-filled-append : (ps qs : List Parameter) → filled (entries_of (ps ++ qs)) ≡ filled (entries_of ps) ++ filled (entries_of qs)
+filled-append : (ps qs : List Parameter) → filled_entries (entries_of (ps ++ qs)) ≡ filled_entries (entries_of ps) ++ filled_entries (entries_of qs)
 filled-append [] qs = refl
 filled-append ((key, value) ∷ ps) qs = filled_by key value ps qs (is_filled value) refl (filled-append ps qs)
 
@@ -136,7 +136,7 @@ filled-append ((key, value) ∷ ps) qs = filled_by key value ps qs (is_filled va
 abbrev inside : List Parameter → List Entry
 inside ps =
     single (codes "VERSION") (codes "2.0") ∷ single (codes "PRODID") (codes "-//Goqlanis//Contents//EN")
-    ∷ single (codes "BEGIN") (codes "VEVENT") ∷ (filled (entries_of ps) ++ single (codes "END") (codes "VEVENT") ∷ [])
+    ∷ single (codes "BEGIN") (codes "VEVENT") ∷ (filled_entries (entries_of ps) ++ single (codes "END") (codes "VEVENT") ∷ [])
 
 -- the lines after those of the event
 abbrev ends : List Entry
@@ -148,23 +148,23 @@ opened lines =
     single (codes "BEGIN") (codes "VCALENDAR") ∷ single (codes "VERSION") (codes "2.0")
     ∷ single (codes "PRODID") (codes "-//Goqlanis//Contents//EN") ∷ single (codes "BEGIN") (codes "VEVENT") ∷ lines
 
-all_read : (ps : List Parameter) → AreContent ps → read_content (content_text (first_lines ++ (ps ++ last_lines))) ≡ opened (filled (entries_of ps) ++ ends)
+all_read : (ps : List Parameter) → AreContent ps → read_content (content_text (first_lines ++ (ps ++ last_lines))) ≡ opened (filled_entries (entries_of ps) ++ ends)
 all_read ps are =
     lines_read (first_lines ++ (ps ++ last_lines)) (AreContent-append first_lines (ps ++ last_lines) first_content (AreContent-append ps last_lines are last_content))
     ∙ ap (λ xs. opened (xs ++ behind_last)) (filled-append ps last_lines)
-    ∙ ap opened (append_assoc (filled (entries_of ps)) (filled (entries_of last_lines)) behind_last)
+    ∙ ap opened (append_assoc (filled_entries (entries_of ps)) (filled_entries (entries_of last_lines)) behind_last)
 
 -- the calendar is found
-calendar_found : (ps : List Parameter) → list_any is_end ps ≡ false → component (codes "VCALENDAR") (opened (filled (entries_of ps) ++ ends)) ≡ Some (inside ps)
+calendar_found : (ps : List Parameter) → list_any is_end ps ≡ false → component (codes "VCALENDAR") (opened (filled_entries (entries_of ps) ++ ends)) ≡ Some (inside ps)
 calendar_found ps none =
     ap (λ o. option_map (λ xs. single (codes "VERSION") (codes "2.0") ∷ xs) (option_map (λ xs. single (codes "PRODID") (codes "-//Goqlanis//Contents//EN") ∷ xs) (option_map (λ xs. single (codes "BEGIN") (codes "VEVENT") ∷ xs) o)))
     (kept_lines (codes "VCALENDAR") ps ends (single (codes "END") (codes "VEVENT") ∷ []) none refl)
 
 -- the event is found in it
-event_found : (ps : List Parameter) → list_any is_end ps ≡ false → component (codes "VEVENT") (inside ps) ≡ Some (filled (entries_of ps))
+event_found : (ps : List Parameter) → list_any is_end ps ≡ false → component (codes "VEVENT") (inside ps) ≡ Some (filled_entries (entries_of ps))
 event_found ps none =
     kept_lines (codes "VEVENT") ps (single (codes "END") (codes "VEVENT") ∷ []) [] none refl
-    ∙ ap Some (append-nil (filled (entries_of ps)))
+    ∙ ap Some (append-nil (filled_entries (entries_of ps)))
 
 -- ---- fields
 
@@ -195,14 +195,14 @@ days_said first end lines begins ends h₁ h₂ = rw (h₁, h₂, filled_day fir
 times_said : (begin end : Moment) (lines : List Entry) → is_moment begin ≡ true → is_moment end ≡ true → value_of (codes "DTSTART;VALUE=DATE") lines ≡ [] → value_of (codes "DTSTART") lines ≡ moment_text begin → value_of (codes "DTEND") lines ≡ moment_text end → span_in lines ≡ Some (Times begin end)
 times_said begin end lines begins ends none h₁ h₂ = rw (none, h₁, h₂, moment_read begin begins, moment_read end ends) refl
 
-says_by : (uid : List ℕ) (stamp : Option Moment) (span : Span) (summary location description : List ℕ) → let h : Happening = record { uid = uid; stamp = stamp; span = span; summary = summary; location = location; description = description } in IsSayable h → Says h (filled (entries_of (event_lines h)))
+says_by : (uid : List ℕ) (stamp : Option Moment) (span : Span) (summary location description : List ℕ) → let h : Happening = record { uid = uid; stamp = stamp; span = span; summary = summary; location = location; description = description } in IsSayable h → Says h (filled_entries (entries_of (event_lines h)))
 says_by uid stamp (Days first end) summary location description are =
     let h : Happening = record { uid = uid; stamp = stamp; span = Days first end; summary = summary; location = location; description = description } in
     let es = entries_of (event_lines h) in
     record {
       uid = part_of-filled (codes "UID") 0 es refl;
       stamp = ap (read_or_none read_moment) (part_of-filled (codes "DTSTAMP") 0 es refl) ∙ stamp_read stamp are.stamp;
-      span = days_said first end (filled es) (holds (is_day first) are.begins) (holds (is_day end) are.ends) (part_of-filled (codes "DTSTART;VALUE=DATE") 0 es refl) (part_of-filled (codes "DTEND;VALUE=DATE") 0 es refl);
+      span = days_said first end (filled_entries es) (holds (is_day first) are.begins) (holds (is_day end) are.ends) (part_of-filled (codes "DTSTART;VALUE=DATE") 0 es refl) (part_of-filled (codes "DTEND;VALUE=DATE") 0 es refl);
       summary = part_of-filled (codes "SUMMARY") 0 es refl;
       location = part_of-filled (codes "LOCATION") 0 es refl;
       description = part_of-filled (codes "DESCRIPTION") 0 es refl;
@@ -213,7 +213,7 @@ says_by uid stamp (Times begin end) summary location description are =
     record {
       uid = part_of-filled (codes "UID") 0 es refl;
       stamp = ap (read_or_none read_moment) (part_of-filled (codes "DTSTAMP") 0 es refl) ∙ stamp_read stamp are.stamp;
-      span = times_said begin end (filled es) (holds (is_moment begin) are.begins) (holds (is_moment end) are.ends) (part_of-filled (codes "DTSTART;VALUE=DATE") 0 es refl) (part_of-filled (codes "DTSTART") 0 es refl) (part_of-filled (codes "DTEND") 0 es refl);
+      span = times_said begin end (filled_entries es) (holds (is_moment begin) are.begins) (holds (is_moment end) are.ends) (part_of-filled (codes "DTSTART;VALUE=DATE") 0 es refl) (part_of-filled (codes "DTSTART") 0 es refl) (part_of-filled (codes "DTEND") 0 es refl);
       summary = part_of-filled (codes "SUMMARY") 0 es refl;
       location = part_of-filled (codes "LOCATION") 0 es refl;
       description = part_of-filled (codes "DESCRIPTION") 0 es refl;
@@ -233,4 +233,4 @@ event_read h is =
     ap (λ lines. option_and_then calendar_event (component (codes "VCALENDAR") lines)) (all_read ps (event_content h are))
     ∙ ap (option_and_then calendar_event) (calendar_found ps none)
     ∙ ap (option_and_then happening_in) (event_found ps none)
-    ∙ happening_said h (filled (entries_of ps)) (says_by h.uid h.stamp h.span h.summary h.location h.description are)
+    ∙ happening_said h (filled_entries (entries_of ps)) (says_by h.uid h.stamp h.span h.summary h.location h.description are)

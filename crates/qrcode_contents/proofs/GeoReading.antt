@@ -10,7 +10,7 @@ use Rattle.std.proofs.lemmas.List.{length-append}
 use Rattle.qrcode_contents.specs.declared.fields.errors.Field.TheVariants.{Latitude, Longitude}
 use Rattle.qrcode_contents.specs.declared.fields.errors.Cause.TheVariants.{Range}
 use Rattle.qrcode_contents.specs.declared.geo.Place.{Place}
-use Rattle.qrcode_contents.specs.Geo.{place_checks, place_refusal, first_digit, fraction_digits, fraction_text, degrees_text, sign_text, coordinate_text, place_text, negative, read_coordinate, place_at, read_place}
+use Rattle.qrcode_contents.specs.Geo.{place_checks, place_refusal, first_digit, fraction_digits, fraction_text, degrees_text, sign_text, coordinate_text, place_text, negative, read_coordinate, place_from, read_place}
 use Rattle.qrcode_contents.specs.fields.Decimals.{fraction_value, read_decimal}
 use Rattle.qrcode_contents.proofs.DigitReading.{AreDigits, AreDigits-append, AreDigits-one, AreDigits-decimal, HasNo-digits, read_decimal-point, read_decimal-whole}
 use Rattle.qrcode_contents.proofs.EntryReading.{neither, HasNo, before-at, after-at}
@@ -171,5 +171,5 @@ place_read p is =
     let north = below_word 90000000 (unsigned_abs p.latitude) (lit< tt) (test_passes (nat_lt 90000000 (unsigned_abs p.latitude)) Latitude Range none.0) in
     let east = below_word 180000000 (unsigned_abs p.longitude) (lit< tt) (test_passes (nat_lt 180000000 (unsigned_abs p.longitude)) Longitude Range none.1.0) in
     let comma = HasNo-coordinate p.latitude north in
-    ap₂ place_at (before-at 44 (coordinate_text p.latitude) (coordinate_text p.longitude) comma) (after-at 44 (coordinate_text p.latitude) (coordinate_text p.longitude) comma)
+    ap₂ place_from (before-at 44 (coordinate_text p.latitude) (coordinate_text p.longitude) comma) (after-at 44 (coordinate_text p.latitude) (coordinate_text p.longitude) comma)
     ∙ rw (coordinate_read p.latitude north, coordinate_read p.longitude east) refl

@@ -10,7 +10,7 @@ use Rattle.std.proofs.lemmas.Bool.{and_parts}
 use Rattle.qrcode_contents.specs.declared.fields.links.LinkPart.{LinkPart}
 use Rattle.qrcode_contents.specs.declared.fields.links.LinkPart.TheVariants.{Path, Addresses, Value}
 use Rattle.qrcode_contents.specs.fields.Characters.{is_control, is_other_control, before}
-use Rattle.qrcode_contents.specs.fields.Entries.{Entry, single, is_filled, filled, value_of}
+use Rattle.qrcode_contents.specs.fields.Entries.{Entry, single, is_filled, filled_entries, value_of}
 use Rattle.qrcode_contents.specs.fields.EntryTests.{are_distinct}
 use Rattle.qrcode_contents.specs.fields.Links.{part_byte, part_text, Parameter, parameter_text, query_text, read_parameter, value_in}
 use Rattle.qrcode_contents.specs.fields.Percents.{is_unreserved, hex_digit, encoded_byte, decoded}
@@ -173,17 +173,17 @@ read_pieces bytes = map read_parameter (slice_split is_and bytes)
 abbrev pub and_text : List Parameter → List ℕ
 and_text ps = query_text (38 ∷ []) ps
 
-later_filled : (piece key value : List ℕ) (ps : List Parameter) → HasNo 38 piece → HasNo 61 key → HasNo 13 value → read_pieces (parameter_text (key, value) ++ and_text ps) ≡ read_parameter (parameter_text (key, value)) ∷ filled (entries_of ps) → read_pieces (piece ++ 38 ∷ (parameter_text (key, value) ++ and_text ps)) ≡ read_parameter piece ∷ single key value ∷ filled (entries_of ps)
+later_filled : (piece key value : List ℕ) (ps : List Parameter) → HasNo 38 piece → HasNo 61 key → HasNo 13 value → read_pieces (parameter_text (key, value) ++ and_text ps) ≡ read_parameter (parameter_text (key, value)) ∷ filled_entries (entries_of ps) → read_pieces (piece ++ 38 ∷ (parameter_text (key, value) ++ and_text ps)) ≡ read_parameter piece ∷ single key value ∷ filled_entries (entries_of ps)
 later_filled piece key value ps none name no_return later =
     ap (map read_parameter) (slice_split_at is_and piece 38 (parameter_text (key, value) ++ and_text ps) (all_no_and piece none) refl)
-    ∙ ap (λ xs. read_parameter piece ∷ xs) (later ∙ ap (λ e. e ∷ filled (entries_of ps)) (parameter_read key value name no_return))
+    ∙ ap (λ xs. read_parameter piece ∷ xs) (later ∙ ap (λ e. e ∷ filled_entries (entries_of ps)) (parameter_read key value name no_return))
 
-later_by : (piece key value : List ℕ) (ps : List Parameter) (some : Bool) → is_filled value ≡ some → HasNo 38 piece → HasNo 61 key → HasNo 13 value → read_pieces (parameter_text (key, value) ++ and_text ps) ≡ read_parameter (parameter_text (key, value)) ∷ filled (entries_of ps) → read_pieces (piece ++ and_text ps) ≡ read_parameter piece ∷ filled (entries_of ps) → read_pieces (piece ++ and_text ((key, value) ∷ ps)) ≡ read_parameter piece ∷ filled (entries_of ((key, value) ∷ ps))
+later_by : (piece key value : List ℕ) (ps : List Parameter) (some : Bool) → is_filled value ≡ some → HasNo 38 piece → HasNo 61 key → HasNo 13 value → read_pieces (parameter_text (key, value) ++ and_text ps) ≡ read_parameter (parameter_text (key, value)) ∷ filled_entries (entries_of ps) → read_pieces (piece ++ and_text ps) ≡ read_parameter piece ∷ filled_entries (entries_of ps) → read_pieces (piece ++ and_text ((key, value) ∷ ps)) ≡ read_parameter piece ∷ filled_entries (entries_of ((key, value) ∷ ps))
 later_by piece key value ps true is none name no_return with_it without = rw is (later_filled piece key value ps none name no_return with_it)
 later_by piece key value ps false is none name no_return with_it without = rw is without
 
 -- parameters after a piece are read back, without those that have no value
-pub later_read : (piece : List ℕ) (ps : List Parameter) → HasNo 38 piece → AreParameters ps → read_pieces (piece ++ and_text ps) ≡ read_parameter piece ∷ filled (entries_of ps)
+pub later_read : (piece : List ℕ) (ps : List Parameter) → HasNo 38 piece → AreParameters ps → read_pieces (piece ++ and_text ps) ≡ read_parameter piece ∷ filled_entries (entries_of ps)
 later_read piece [] none are =
     ap read_pieces (append-nil piece) ∙ ap (map read_parameter) (slice_split_none is_and piece (all_no_and piece none))
 later_read piece ((key, value) ∷ ps) none are =
@@ -199,13 +199,13 @@ none_in : (key path : List ℕ) → HasNo 63 path → bytes_eq key [] ≡ false 
 unfolding read_parameter decoded
 none_in key path none some = rw (append-nil path, after-none 63 path none, some) refl
 
-first_by : (key path name value : List ℕ) (ps : List Parameter) (some : Bool) → is_filled value ≡ some → HasNo 63 path → HasNo 61 name → HasNo 38 name → HasNo 13 value → AreParameters ps → value_in key (link_text path ps) ≡ value_of key (filled (entries_of ps)) → value_in key (link_text path ((name, value) ∷ ps)) ≡ value_of key (filled (entries_of ((name, value) ∷ ps)))
+first_by : (key path name value : List ℕ) (ps : List Parameter) (some : Bool) → is_filled value ≡ some → HasNo 63 path → HasNo 61 name → HasNo 38 name → HasNo 13 value → AreParameters ps → value_in key (link_text path ps) ≡ value_of key (filled_entries (entries_of ps)) → value_in key (link_text path ((name, value) ∷ ps)) ≡ value_of key (filled_entries (entries_of ((name, value) ∷ ps)))
 first_by key path name value ps true is none no_equals no_and no_return are later =
     rw is (ap (λ xs. value_of key (read_pieces xs)) (after-at 63 path (parameter_text (name, value) ++ and_text ps) none)
-    ∙ ap (value_of key) (later_read (parameter_text (name, value)) ps (HasNo-parameter name value no_and) are ∙ ap (λ e. e ∷ filled (entries_of ps)) (parameter_read name value no_equals no_return)))
+    ∙ ap (value_of key) (later_read (parameter_text (name, value)) ps (HasNo-parameter name value no_and) are ∙ ap (λ e. e ∷ filled_entries (entries_of ps)) (parameter_read name value no_equals no_return)))
 first_by key path name value ps false is none no_equals no_and no_return are later = rw is later
 
-filled_read : (key path : List ℕ) (ps : List Parameter) → HasNo 63 path → AreParameters ps → bytes_eq key [] ≡ false → value_in key (link_text path ps) ≡ value_of key (filled (entries_of ps))
+filled_read : (key path : List ℕ) (ps : List Parameter) → HasNo 63 path → AreParameters ps → bytes_eq key [] ≡ false → value_in key (link_text path ps) ≡ value_of key (filled_entries (entries_of ps))
 filled_read key path [] none are some = none_in key path none some
 filled_read key path ((name, value) ∷ ps) none are some =
     first_by key path name value ps (is_filled value) refl none are.0 are.1 are.2 are.3 (filled_read key path ps none are.3 some)

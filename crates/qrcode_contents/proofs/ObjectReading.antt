@@ -9,7 +9,7 @@ use Rattle.std.proofs.lemmas.List.Concat.{flat_map-append}
 use Rattle.std.proofs.lemmas.Slice.Eq.{bytes_eq-Decides}
 use Rattle.qrcode_contents.specs.Times.{pair_text}
 use Rattle.qrcode_contents.specs.fields.Characters.{is_digit}
-use Rattle.qrcode_contents.specs.fields.Entries.{single, is_filled, filled}
+use Rattle.qrcode_contents.specs.fields.Entries.{single, is_filled, filled_entries}
 use Rattle.qrcode_contents.specs.fields.Links.{Parameter}
 use Rattle.qrcode_contents.specs.fields.Objects.{object_text, objects_text, pair_value, read_at_most, read_objects, crc_of, crc_text, checked_text, read_checked}
 use Rattle.qrcode_contents.proofs.DigitReading.{digit_is}
@@ -64,13 +64,13 @@ length_filled tag value os two small is =
 pub length_empty : (tag value : List ℕ) (os : List Parameter) → is_filled value ≡ false → length (objects_text ((tag, value) ∷ os)) ≡ length (objects_text os)
 length_empty tag value os is = ap length (object_empty tag value os is)
 
-filled_first : (tag value : List ℕ) (os : List Parameter) → is_filled value ≡ true → filled (entries_of ((tag, value) ∷ os)) ≡ single tag value ∷ filled (entries_of os)
+filled_first : (tag value : List ℕ) (os : List Parameter) → is_filled value ≡ true → filled_entries (entries_of ((tag, value) ∷ os)) ≡ single tag value ∷ filled_entries (entries_of os)
 filled_first tag value os is = rw is refl
 
-filled_later : (tag value : List ℕ) (os : List Parameter) → is_filled value ≡ false → filled (entries_of ((tag, value) ∷ os)) ≡ filled (entries_of os)
+filled_later : (tag value : List ℕ) (os : List Parameter) → is_filled value ≡ false → filled_entries (entries_of ((tag, value) ∷ os)) ≡ filled_entries (entries_of os)
 filled_later tag value os is = rw is refl
 
-object_by : (n : ℕ) (tag value : List ℕ) (os : List Parameter) (some : Bool) → is_filled value ≡ some → length tag ≡ 2 → length value < 100 → ((m : ℕ) → length (objects_text os) ≤ m → read_at_most m (objects_text os) ≡ Some (filled (entries_of os))) → length (objects_text ((tag, value) ∷ os)) ≤ n → read_at_most n (objects_text ((tag, value) ∷ os)) ≡ Some (filled (entries_of ((tag, value) ∷ os)))
+object_by : (n : ℕ) (tag value : List ℕ) (os : List Parameter) (some : Bool) → is_filled value ≡ some → length tag ≡ 2 → length value < 100 → ((m : ℕ) → length (objects_text os) ≤ m → read_at_most m (objects_text os) ≡ Some (filled_entries (entries_of os))) → length (objects_text ((tag, value) ∷ os)) ≤ n → read_at_most n (objects_text ((tag, value) ∷ os)) ≡ Some (filled_entries (entries_of ((tag, value) ∷ os)))
 object_by n tag value os false is two small later room =
     let none = length_empty tag value os is in
     ap (read_at_most n) (object_empty tag value os is) ∙ later n (omega (arith, none, room)) ∙ ap Some (sym (filled_later tag value os is))
@@ -95,12 +95,12 @@ no_objects = refl
 pub no_length : length (objects_text []) ≡ 0
 no_length = ap length no_objects
 
-objects_within : (os : List Parameter) → AreObjects os → (n : ℕ) → length (objects_text os) ≤ n → read_at_most n (objects_text os) ≡ Some (filled (entries_of os))
+objects_within : (os : List Parameter) → AreObjects os → (n : ℕ) → length (objects_text os) ≤ n → read_at_most n (objects_text os) ≡ Some (filled_entries (entries_of os))
 objects_within [] are n room = ap (read_at_most n) no_objects ∙ nothing_read n
 objects_within ((tag, value) ∷ os) are n room = object_by n tag value os (is_filled value) refl are.0 are.1 (objects_within os are.2) room
 
 -- objects are read back, without those that have no value
-pub objects_read : (os : List Parameter) → AreObjects os → read_objects (objects_text os) ≡ Some (filled (entries_of os))
+pub objects_read : (os : List Parameter) → AreObjects os → read_objects (objects_text os) ≡ Some (filled_entries (entries_of os))
 objects_read os are = objects_within os are (length (objects_text os)) (omega arith)
 
 -- objects, with their checksum as the last of them
@@ -135,7 +135,7 @@ check_passes start =
     rw (four_behind start (crc_of start), take-append_seam start check, drop-append_seam start check, same_bytes check) refl
 
 -- objects with their checksum are read back
-pub checked_read : (os : List Parameter) → AreObjects os → read_checked (checked_text (objects_text os)) ≡ Some (filled (entries_of (with_check os)))
+pub checked_read : (os : List Parameter) → AreObjects os → read_checked (checked_text (objects_text os)) ≡ Some (filled_entries (entries_of (with_check os)))
 checked_read os are =
     let start = objects_text os ++ codes "6304" in
     let grouped : checked_text (objects_text os) ≡ start ++ crc_text (crc_of start) = sym (append_assoc (objects_text os) (codes "6304") (crc_text (crc_of start))) in

@@ -9,7 +9,7 @@ use Rattle.qrcode_contents.specs.declared.fields.errors.Cause.TheVariants.{Contr
 use Rattle.qrcode_contents.specs.declared.payment.PaymentVersion.{PaymentVersion}
 use Rattle.qrcode_contents.specs.fields.Amounts.{amount_text, read_amount}
 use Rattle.qrcode_contents.specs.fields.Characters.{is_control, control_refusal}
-use Rattle.qrcode_contents.specs.fields.Entries.{is_filled, behind}
+use Rattle.qrcode_contents.specs.fields.Entries.{is_filled, after_start}
 use Rattle.qrcode_contents.specs.fields.Lines.{line_at}
 use Rattle.qrcode_contents.specs.Payment.{Transfer, version_name, payment_lines, payment_text, later_count, later_lines, read_payment, transfer_of, transfer_from, named_version, field_checks, control_checks, break_checks, bank_checks, bank_refusal, text_checks}
 use Rattle.qrcode_contents.specs.fields.Refusals.{refused_if}
@@ -81,7 +81,7 @@ lines_say t fits =
     let line = line_at (payment_lines t) in
     let is = kept_by t.purpose t.reference t.message t.information (is_filled t.purpose) (is_filled t.reference) (is_filled t.message) (is_filled t.information) refl refl refl refl in
     let same = same_transfer t (line 8) (line 9) (line 10) (line 11) is.first is.second is.third is.fourth in
-    ap (option_and_then (λ version. option_map (transfer_from line version) (option_and_then read_amount (behind (codes "EUR") (line 7))))) (named t.version)
+    ap (option_and_then (λ version. option_map (transfer_from line version) (option_and_then read_amount (after_start (codes "EUR") (line 7))))) (named t.version)
     ∙ ap (option_map (transfer_from line t.version)) (amount_read t.cents fits)
     ∙ ap Some same
 

@@ -3,12 +3,12 @@ use Rattle.std.proofs.Common.{◌≡◌, ℕ, List, Bool, true, Some, codes, ref
 use Rattle.std.specs.Option.{option_and_then}
 use Rattle.std.proofs.lemmas.Bool.Decides.{nat_tests}
 use Rattle.qrcode_contents.specs.declared.wifi.Security.{Security}
-use Rattle.qrcode_contents.specs.fields.Entries.{Entry, filled}
+use Rattle.qrcode_contents.specs.fields.Entries.{Entry, filled_entries}
 use Rattle.qrcode_contents.specs.fields.EntryTests.{are_distinct}
 use Rattle.qrcode_contents.specs.Wifi.{Network, wifi_entries, wifi_text, network_of, read_wifi}
 use Rattle.qrcode_contents.proofs.EntryReading.{read_entries-text, part_of-filled}
 
-network_of-filled : (es : List Entry) → are_distinct es ≡ true → network_of (filled es) ≡ network_of es
+network_of-filled : (es : List Entry) → are_distinct es ≡ true → network_of (filled_entries es) ≡ network_of es
 network_of-filled es are =
     rw (part_of-filled (codes "T") 0 es are, part_of-filled (codes "S") 0 es are, part_of-filled (codes "P") 0 es are, part_of-filled (codes "H") 0 es are) refl
 

@@ -11,6 +11,6 @@ has_form text =
 abbrev pub check_number : List ℕ → ℕ  -- the check digits as a number
 check_number text = (slice_index_or text 2 0 - 48) * 10 + (slice_index_or text 3 0 - 48)
 
-abbrev pub is_checked : List ℕ → Bool  -- the check digits are right: the remainder modulo 97 is 1, and they are 02 to 98, since they are 98 minus a remainder
-is_checked text =
+abbrev pub has_check_digits : List ℕ → Bool  -- the check digits are right: the remainder modulo 97 is 1, and they are 02 to 98, since they are 98 minus a remainder
+has_check_digits text =
     nat_lt 3 (length text) && nat_le 2 (check_number text) && nat_le (check_number text) 98 && checked_number text % 97 == 1

@@ -8,7 +8,7 @@ use Rattle.qrcode_contents.specs.declared.fields.errors.ContentError.TheVariants
 use Rattle.qrcode_contents.specs.declared.fields.errors.Field.{Field}
 use Rattle.qrcode_contents.specs.declared.fields.errors.Field.TheVariants.{Iban, Name, Street, Number, PostalCode, City, Country, DebtorName, DebtorStreet, DebtorNumber, DebtorPostalCode, DebtorCity, DebtorCountry, Amount, Reference, Message}
 use Rattle.qrcode_contents.specs.declared.fields.errors.Cause.TheVariants.{Empty, TooLong, TooShort, Character, CheckDigits, Range, Unused}
-use Rattle.qrcode_contents.specs.Accounts.{has_form, is_checked}
+use Rattle.qrcode_contents.specs.Accounts.{has_form, has_check_digits}
 use Rattle.qrcode_contents.specs.declared.bill.Currency.{Currency}
 use Rattle.qrcode_contents.specs.declared.bill.Currency.TheVariants.{Franc, Euro}
 use Rattle.qrcode_contents.specs.declared.bill.Party.{Party}
@@ -170,7 +170,7 @@ account_checks b =
     ∷ refused_if (nat_lt (length (chars b.iban)) 21) Iban TooShort
     ∷ refused_if (nat_lt 21 (length (chars b.iban))) Iban TooLong
     ∷ refused_if (not (is_account b.iban)) Iban Character
-    ∷ refused_if (not (is_checked b.iban)) Iban CheckDigits
+    ∷ refused_if (not (has_check_digits b.iban)) Iban CheckDigits
     ∷ refused_if (is_out_of_range b.cents) Amount Range
     ∷ []
 
@@ -198,7 +198,7 @@ reference_checks b =
     ∷ refused_if (is_creditor_reference b.reference && nat_lt (length (chars b.reference)) 5) Reference TooShort
     ∷ refused_if (is_creditor_reference b.reference && nat_lt 25 (length (chars b.reference))) Reference TooLong
     ∷ refused_if (is_creditor_reference b.reference && not (has_form b.reference)) Reference Character
-    ∷ refused_if (is_creditor_reference b.reference && not (is_checked b.reference)) Reference CheckDigits
+    ∷ refused_if (is_creditor_reference b.reference && not (has_check_digits b.reference)) Reference CheckDigits
     ∷ refused_if (is_qr_account b.iban && is_empty b.reference) Reference Empty
     ∷ refused_if (is_qr_account b.iban && not (is_qr_reference b.reference)) Reference Unused
     ∷ refused_if (not (is_qr_account b.iban) && is_qr_reference b.reference) Reference Unused

@@ -6,7 +6,7 @@ use Rattle.qrcode_contents.specs.declared.fields.errors.ContentError.{ContentErr
 use Rattle.qrcode_contents.specs.declared.fields.errors.Field.TheVariants.{Family, Given, Phone, Email, Url, Birthday, Note, Street, City, Region, PostalCode, Country}
 use Rattle.qrcode_contents.specs.declared.fields.errors.Cause.TheVariants.{Empty, Range, Character}
 use Rattle.qrcode_contents.specs.fields.Characters.{control_refusal}
-use Rattle.qrcode_contents.specs.fields.Entries.{Entry, single, is_empty, marked_text, read_entry, read_entries, read_or_none, value_of, part_of}
+use Rattle.qrcode_contents.specs.fields.Entries.{Entry, single, is_empty, marked_text, read_entry, read_entries, read_or_none, value_of, part_with_key}
 use Rattle.qrcode_contents.specs.fields.Escapes.{unescaped_from, pieces_from}
 use Rattle.qrcode_contents.specs.fields.Refusals.{refused_if, first_refusal}
 use Rattle.qrcode_contents.specs.Phone.{is_no_number}
@@ -69,18 +69,18 @@ mecard_text p = codes "MECARD:" ++ (flat_map marked_text (mecard_entries p) ++ 5
 
 abbrev pub contact_with : List Entry → Option Day → ContactFields  -- the contact of these entries, with this birthday
 contact_with entries birthday = record {
-  family = part_of (codes "N") 0 entries;
-  given = part_of (codes "N") 1 entries;
+  family = part_with_key (codes "N") 0 entries;
+  given = part_with_key (codes "N") 1 entries;
   phone = value_of (codes "TEL") entries;
   email = value_of (codes "EMAIL") entries;
   url = value_of (codes "URL") entries;
   birthday = birthday;
   note = value_of (codes "NOTE") entries;
-  street = part_of (codes "ADR") 2 entries;
-  city = part_of (codes "ADR") 3 entries;
-  region = part_of (codes "ADR") 4 entries;
-  code = part_of (codes "ADR") 5 entries;
-  country = part_of (codes "ADR") 6 entries;
+  street = part_with_key (codes "ADR") 2 entries;
+  city = part_with_key (codes "ADR") 3 entries;
+  region = part_with_key (codes "ADR") 4 entries;
+  code = part_with_key (codes "ADR") 5 entries;
+  country = part_with_key (codes "ADR") 6 entries;
 }
 
 abbrev pub contact_from : List Entry → Option ContactFields  -- the contact of these entries; None if the birthday cannot be read

@@ -6,7 +6,7 @@ use Rattle.qrcode_contents.specs.declared.fields.errors.ContentError.{ContentErr
 use Rattle.qrcode_contents.specs.declared.fields.errors.Field.TheVariants.{Latitude, Longitude}
 use Rattle.qrcode_contents.specs.declared.fields.errors.Cause.TheVariants.{Range}
 use Rattle.qrcode_contents.specs.declared.geo.Place.{Place}
-use Rattle.qrcode_contents.specs.fields.Entries.{behind}
+use Rattle.qrcode_contents.specs.fields.Entries.{after_start}
 use Rattle.qrcode_contents.specs.fields.Characters.{before, after}
 use Rattle.qrcode_contents.specs.fields.Decimals.{read_decimal}
 use Rattle.qrcode_contents.specs.fields.Refusals.{refused_if, first_refusal}
@@ -53,13 +53,13 @@ read_coordinate [] = None
 read_coordinate (b ∷ rest) =
     if b == 45 then option_map negative (read_decimal 6 rest) else option_map (λ n. pos n) (read_decimal 6 (b ∷ rest))
 
-abbrev pub place_at : List ℕ → List ℕ → Option Place  -- the place at these coordinates; None if they cannot be read
-place_at north east =
+abbrev pub place_from : List ℕ → List ℕ → Option Place  -- the place at these coordinates; None if they cannot be read
+place_from north east =
     option_and_then (λ latitude. option_map (λ longitude. record { latitude = latitude; longitude = longitude }) (read_coordinate east))
     (read_coordinate north)
 
 unfoldable pub read_place : List ℕ → Option Place  -- the place of a link; None if it cannot be read
-read_place text = option_and_then (λ rest. place_at (before 44 rest) (after 44 rest)) (behind (codes "geo:") text)
+read_place text = option_and_then (λ rest. place_from (before 44 rest) (after 44 rest)) (after_start (codes "geo:") text)
 
 -- printed examples of RFC 5870, sections 6.1 and 6.4, and one with a sign
 printed_row : read_place (codes "geo:13.4125,103.8667") ≡ Some (let p : Place = record { latitude = pos 13412500; longitude = pos 103866700 } in p)

@@ -8,7 +8,7 @@ use Rattle.qrcode_contents.specs.declared.fields.errors.Cause.TheVariants.{Empty
 use Rattle.qrcode_contents.specs.declared.fields.links.LinkPart.TheVariants.{Addresses}
 use Rattle.qrcode_contents.specs.declared.mail.Mail.{Mail}
 use Rattle.qrcode_contents.specs.fields.Characters.{are_addresses, is_control, is_other_control, before}
-use Rattle.qrcode_contents.specs.fields.Entries.{behind, is_empty}
+use Rattle.qrcode_contents.specs.fields.Entries.{after_start, is_empty}
 use Rattle.qrcode_contents.specs.fields.Links.{Parameter, part_text, query_text, read_parameter, value_in}
 use Rattle.qrcode_contents.specs.fields.Percents.{decoded}
 use Rattle.qrcode_contents.specs.fields.Refusals.{refused_if, first_refusal}
@@ -59,7 +59,7 @@ letter_in link = record {
 }
 
 abbrev pub read_mail : List ℕ → Option Letter  -- the e-mail of a link; None if it does not start with `mailto:`
-read_mail text = option_map letter_in (behind (codes "mailto:") text)
+read_mail text = option_map letter_in (after_start (codes "mailto:") text)
 
 -- a printed example of RFC 6068, section 6.1
 printed_row : read_mail (codes "mailto:infobot@example.com?subject=current-issue") ≡ Some (let m : Letter = record { address = codes "infobot@example.com"; cc = []; bcc = []; subject = codes "current-issue"; body = [] } in m)

@@ -13,7 +13,7 @@ use Rattle.qrcode_contents.specs.Bill.{amount_line, is_out_of_range, read_cents}
 use Rattle.qrcode_contents.specs.PixKeys.{has_wrong_digits, is_key}
 use Rattle.qrcode_contents.specs.fields.Characters.{is_capital, is_digit}
 use Rattle.qrcode_contents.specs.fields.Decimals.{read_decimal}
-use Rattle.qrcode_contents.specs.fields.Entries.{Entry, behind, is_empty, is_filled, value_of}
+use Rattle.qrcode_contents.specs.fields.Entries.{Entry, after_start, is_empty, is_filled, value_of}
 use Rattle.qrcode_contents.specs.fields.Links.{Parameter}
 use Rattle.qrcode_contents.specs.fields.Objects.{checked_text, crc_of, objects_text, read_at_most, read_checked, read_objects}
 use Rattle.qrcode_contents.specs.fields.Refusals.{refused_if, first_refusal}
@@ -194,7 +194,7 @@ promptpay_text p = checked_text (objects_text (promptpay_objects p))
 
 -- a telephone number, whose country code is Thailand's; None for any other
 abbrev pub read_number : List ℕ → Option (List ℕ)
-read_number value = option_map (λ rest. codes "0" ++ rest) (behind (codes "0066") value)
+read_number value = option_map (λ rest. codes "0" ++ rest) (after_start (codes "0066") value)
 
 -- the payee, from the objects inside the account object; None if it is a telephone number of another country
 abbrev pub read_payee : List Entry → Option (List ℕ)

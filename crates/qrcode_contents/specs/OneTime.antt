@@ -16,7 +16,7 @@ use Rattle.qrcode_contents.specs.declared.one_time.Digits.TheVariants.{Six, Eigh
 use Rattle.qrcode_contents.specs.declared.one_time.OneTime.{OneTime}
 use Rattle.qrcode_contents.specs.fields.Characters.{is_base32, is_control, before, after}
 use Rattle.qrcode_contents.specs.fields.Decimals.{read_decimal}
-use Rattle.qrcode_contents.specs.fields.Entries.{is_empty, is_filled, behind}
+use Rattle.qrcode_contents.specs.fields.Entries.{is_empty, is_filled, after_start}
 use Rattle.qrcode_contents.specs.fields.Links.{Parameter, part_text, query_text, read_parameter, value_in}
 use Rattle.qrcode_contents.specs.fields.Percents.{decoded}
 use Rattle.qrcode_contents.specs.fields.Refusals.{refused_if, first_refusal}
@@ -134,7 +134,7 @@ key_in name link =
     }) (read_digits (value_in (codes "digits") link))) (read_algorithm (value_in (codes "algorithm") link))) (read_factor name link)
 
 abbrev pub read_key : List ℕ → Option Key  -- the one-time passwords of a text; None if they cannot be read
-read_key text = option_and_then (λ rest. key_in (before 47 rest) (after 47 rest)) (behind (codes "otpauth://") text)
+read_key text = option_and_then (λ rest. key_in (before 47 rest) (after 47 rest)) (after_start (codes "otpauth://") text)
 
 -- the printed example
 printed_row : read_key (codes "otpauth://totp/ACME%20Co:john.doe@email.com?secret=HXDMVJECJJWSRB3HWIZR4IFUGFTMXBOZ&issuer=ACME%20Co&algorithm=SHA1&digits=6&period=30")

@@ -6,13 +6,13 @@ use Rattle.std.specs.Option.{option_map, option_and_then}
 use Rattle.qrcode_contents.specs.declared.fields.errors.ContentError.{ContentError}
 use Rattle.qrcode_contents.specs.declared.fields.errors.Field.TheVariants.{Bic, Name, Iban, Amount, Purpose, Reference, Message, Information, Whole}
 use Rattle.qrcode_contents.specs.declared.fields.errors.Cause.TheVariants.{Empty, TooLong, TooShort, Character, CheckDigits, ControlCharacter, Range, Unused}
-use Rattle.qrcode_contents.specs.Accounts.{has_form, is_checked}
+use Rattle.qrcode_contents.specs.Accounts.{has_form, has_check_digits}
 use Rattle.qrcode_contents.specs.declared.payment.PaymentVersion.{PaymentVersion}
 use Rattle.qrcode_contents.specs.declared.payment.PaymentVersion.TheVariants.{One, Two}
 use Rattle.qrcode_contents.specs.declared.payment.Payment.{Payment}
 use Rattle.qrcode_contents.specs.fields.Amounts.{amount_text, read_amount}
 use Rattle.qrcode_contents.specs.fields.Characters.{is_capital_or_digit, is_unicode_break, control_refusal}
-use Rattle.qrcode_contents.specs.fields.Entries.{is_empty, is_filled, behind}
+use Rattle.qrcode_contents.specs.fields.Entries.{is_empty, is_filled, after_start}
 use Rattle.qrcode_contents.specs.fields.Lines.{lines_text, read_lines, line_at}
 use Rattle.qrcode_contents.specs.fields.Refusals.{refused_if, first_refusal}
 
@@ -81,7 +81,7 @@ bank_checks t =
     ∷ refused_if (nat_lt (length (chars t.iban)) 5) Iban TooShort
     ∷ refused_if (nat_lt 34 (length (chars t.iban))) Iban TooLong
     ∷ refused_if (not (has_form t.iban)) Iban Character
-    ∷ refused_if (not (is_checked t.iban)) Iban CheckDigits
+    ∷ refused_if (not (has_check_digits t.iban)) Iban CheckDigits
     ∷ refused_if (nat_lt t.cents 1 || nat_lt 99999999999 t.cents) Amount Range
     ∷ []
 
@@ -98,7 +98,7 @@ text_checks t = first_refusal (
     ∷ refused_if (is_filled t.reference && nat_lt (length (chars t.reference)) 5) Reference TooShort
     ∷ refused_if (nat_lt 25 (length (chars t.reference))) Reference TooLong
     ∷ refused_if (is_filled t.reference && not (is_reference t.reference)) Reference Character
-    ∷ refused_if (is_filled t.reference && not (is_checked t.reference)) Reference CheckDigits
+    ∷ refused_if (is_filled t.reference && not (has_check_digits t.reference)) Reference CheckDigits
     ∷ refused_if (is_filled t.reference && is_filled t.message) Message Unused
     ∷ refused_if (nat_lt 140 (length (chars t.message))) Message TooLong
     ∷ refused_if (nat_lt 70 (length (chars t.information))) Information TooLong
@@ -153,7 +153,7 @@ transfer_from line version cents = record {
 abbrev pub transfer_of : (ℕ → List ℕ) → Option Transfer  -- the transfer of these lines, where a line after the last is empty; None if they cannot be read
 transfer_of line =
     if bytes_eq (line 0) (codes "BCD") && bytes_eq (line 2) (codes "1") && bytes_eq (line 3) (codes "SCT")
-    then option_and_then (λ version. option_map (transfer_from line version) (option_and_then read_amount (behind (codes "EUR") (line 7)))) (named_version (line 1))
+    then option_and_then (λ version. option_map (transfer_from line version) (option_and_then read_amount (after_start (codes "EUR") (line 7)))) (named_version (line 1))
     else None
 
 unfoldable pub read_payment : List ℕ → Option Transfer  -- the transfer of a text; None if it cannot be read

@@ -6,17 +6,17 @@ use Rattle.qrcode_contents.specs.declared.fields.errors.ContentError.{ContentErr
 use Rattle.qrcode_contents.specs.declared.fields.errors.Field.TheVariants.{Phone}
 use Rattle.qrcode_contents.specs.declared.fields.errors.Cause.TheVariants.{Empty, Character}
 use Rattle.qrcode_contents.specs.fields.Characters.{is_dialled, is_digit, before, after}
-use Rattle.qrcode_contents.specs.fields.Entries.{is_empty, is_filled, behind}
+use Rattle.qrcode_contents.specs.fields.Entries.{is_empty, is_filled, after_start}
 use Rattle.qrcode_contents.specs.fields.Percents.{encoded, decoded}
 use Rattle.qrcode_contents.specs.fields.Refusals.{refused_if, first_refusal}
 
 -- a telephone number: at least one digit, the characters -.(), and a plus sign only at the start
-abbrev pub is_number : List ℕ → Bool
-is_number number =
+abbrev pub is_phone_number : List ℕ → Bool
+is_phone_number number =
     list_all is_dialled number && not (list_any (λ b. b == 43) (drop 1 number)) && list_any is_digit number
 
 abbrev pub is_no_number : List ℕ → Bool  -- a text that is neither empty nor a telephone number
-is_no_number text = is_filled text && not (is_number text)
+is_no_number text = is_filled text && not (is_phone_number text)
 
 abbrev pub phone_checks : List ℕ → List (Option ContentError)  -- the checks of a number: it is not empty, and is a telephone number
 phone_checks number =
@@ -30,5 +30,5 @@ message_text number body = codes "sms:" ++ (number ++ (codes "?body=" ++ encoded
 
 abbrev pub read_message : List ℕ → Option (List ℕ × List ℕ)  -- the number and the body of such a link; None if it cannot be read
 read_message text =
-    option_and_then (λ rest. option_map (λ body. (before 63 rest, decoded body)) (behind (codes "body=") (after 63 rest)))
-    (behind (codes "sms:") text)
+    option_and_then (λ rest. option_map (λ body. (before 63 rest, decoded body)) (after_start (codes "body=") (after 63 rest)))
+    (after_start (codes "sms:") text)

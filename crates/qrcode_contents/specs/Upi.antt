@@ -10,7 +10,7 @@ use Rattle.qrcode_contents.specs.declared.upi.Upi.{Upi}
 use Rattle.qrcode_contents.specs.Bill.{amount_line, is_out_of_range, read_cents}
 use Rattle.qrcode_contents.specs.fields.Characters.{is_capital, is_control, is_digit}
 use Rattle.qrcode_contents.specs.fields.Decimals.{read_decimal}
-use Rattle.qrcode_contents.specs.fields.Entries.{behind, is_empty, is_filled}
+use Rattle.qrcode_contents.specs.fields.Entries.{after_start, is_empty, is_filled}
 use Rattle.qrcode_contents.specs.fields.Links.{Parameter, query_text, read_parameter, value_in}
 use Rattle.qrcode_contents.specs.fields.Percents.{decoded}
 use Rattle.qrcode_contents.specs.fields.Refusals.{refused_if, first_refusal}
@@ -89,7 +89,7 @@ upi_in link =
     else None
 
 abbrev pub read_upi : List ℕ → Option UpiFields  -- the request of a link; None if it cannot be read
-read_upi text = option_and_then upi_in (behind (codes "upi://pay") text)
+read_upi text = option_and_then upi_in (after_start (codes "upi://pay") text)
 
 -- the printed example of the linking specification
 printed_row : read_upi (codes "upi://pay?pa=nadeem@npci&pn=nadeem%20chinna&mc=0000&tid=cxnkjcnkjdfdvjndkjfvn&tr=4894398cndhcd23&tn=Pay%20to%20mystar%20store&am=10&cu=INR&refUrl=https://mystar.com/orderid=9298yw89e8973e87389e78923ue892")

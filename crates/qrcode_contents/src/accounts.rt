@@ -2,7 +2,7 @@
 //! digits, and the characters that they check.
 
 ghost use Rattle.std.specs.Prelude.{◌≡◌, ◌<◌, length};
-ghost use Rattle.qrcode_contents.specs.Accounts.{has_form, check_number, is_checked};
+ghost use Rattle.qrcode_contents.specs.Accounts.{has_form, check_number, has_check_digits};
 
 use crate::fields::characters::{are_capitals, are_capitals_or_digits, are_digits};
 use crate::fields::numbers::has_check_digits;
@@ -34,7 +34,7 @@ fn check_number(bytes: &[u8]) -> u32
 /// Returns whether the check digits are right: the remainder modulo 97 is 1, and they are 02 to 98,
 /// since they are 98 minus a remainder.
 pub fn is_checked(text: &str) -> bool
-    ensures { result ≡ is_checked text.now }
+    ensures { result ≡ has_check_digits text.now }
 {
     let bytes = text.as_bytes();
     bytes.len() > 3 && matches!(check_number(bytes), 2..=98) && has_check_digits(bytes)

@@ -5,9 +5,9 @@ ghost use Rattle.std.specs.List.{list_any};
 ghost use Rattle.qrcode_contents.specs.declared.fields.errors.Cause.TheVariants.{Character};
 ghost use Rattle.qrcode_contents.specs.declared.fields.errors.ContentError.TheVariants.{OutOfMemory};
 ghost use Rattle.qrcode_contents.specs.fields.Characters.{is_digit};
-ghost use Rattle.qrcode_contents.specs.fields.Entries.{behind};
+ghost use Rattle.qrcode_contents.specs.fields.Entries.{after_start};
 ghost use Rattle.qrcode_contents.specs.fields.Percents.{encoded, decoded};
-ghost use Rattle.qrcode_contents.specs.Phone.{is_number, is_no_number, phone_refusal, message_text, read_message};
+ghost use Rattle.qrcode_contents.specs.Phone.{is_phone_number, is_no_number, phone_refusal, message_text, read_message};
 ghost use Rattle.qrcode_contents.specs.fields.Refusals.{Answers, checked};
 
 use crate::fields::characters::are_dialled;
@@ -64,7 +64,7 @@ fn has_digit(number: &str) -> bool
 /// Returns whether `text` is a telephone number: at least one digit, `-`, `.`, `(` and `)`, and `+`
 /// only at the start.
 pub fn is_number(text: &str) -> bool
-    ensures value { result ≡ is_number text.now }
+    ensures value { result ≡ is_phone_number text.now }
 {
     are_dialled(text) && !has_later_plus(text) && has_digit(text)
 }
@@ -97,7 +97,7 @@ impl Phone<'_> {
     /// Errors: `Refused` names the first wrong field and why; `OutOfMemory` if memory runs out.
     pub fn tel(&self, alloc: Global) -> ContentResult<String>
         ensures reads { Answers (phone_refusal self.now.number.now) result
-            (λ text. behind (codes "tel:") text ≡ Some self.now.number.now) }
+            (λ text. after_start (codes "tel:") text ≡ Some self.now.number.now) }
         ensures value { IfOk result (λ text. string_bytes text
             ≡ codes "tel:" ++ self.now.number.now) }
     {
@@ -110,7 +110,7 @@ impl Phone<'_> {
     /// Errors: `Refused` names the first wrong field and why; `OutOfMemory` if memory runs out.
     pub fn sms(&self, alloc: Global) -> ContentResult<String>
         ensures reads { Answers (phone_refusal self.now.number.now) result
-            (λ text. behind (codes "sms:") text ≡ Some self.now.number.now) }
+            (λ text. after_start (codes "sms:") text ≡ Some self.now.number.now) }
         ensures value { IfOk result (λ text. string_bytes text
             ≡ codes "sms:" ++ self.now.number.now) }
     {

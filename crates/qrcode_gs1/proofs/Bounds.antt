@@ -6,8 +6,8 @@ use Rattle.qrcode_types.specs.Modes.{data_bits_count}
 use Rattle.qrcode_types.specs.declared.types.Mode.{Mode}
 use Rattle.qrcode_types.specs.declared.types.Mode.TheVariants.{Numeric, Alphanumeric, Byte, Kanji}
 use Rattle.qrcode_bits.specs.Tokens.{first_byte}
-use Rattle.qrcode_gs1.specs.symbol.Characters.{characters_for, characters, has_characters, must_end, can_stand}
-use Rattle.qrcode_gs1.specs.symbol.Fewest.{behind, ends, goes_or, better, with_header, even_on, best_start, costs_of}
+use Rattle.qrcode_gs1.specs.symbol.Characters.{characters_for, written_characters, has_characters, must_end, can_stand}
+use Rattle.qrcode_gs1.specs.symbol.Fewest.{after_byte, ends, goes_or, better, with_header, even_on, best_start, costs_of}
 use Rattle.qrcode_gs1.specs.declared.symbol.costs.Costs.{Costs}
 use Rattle.qrcode_gs1.specs.declared.symbol.costs.Headers.{Headers}
 use Rattle.qrcode_gs1.specs.declared.symbol.costs.Start.{Start}
@@ -56,27 +56,27 @@ pub can_go : (m : Mode) (b : ℕ) → has_characters m b ≡ true → goes_with 
 can_go m b is = grind (arith, nat_tests)
 
 -- the characters of one more byte
-pub length-more : (m : Mode) (b : ℕ) (chunk : List ℕ) → length (characters m (b ∷ chunk)) ≡ count_for m b + length (characters m chunk)
-length-more m b chunk = length-append (characters_for m b) (characters m chunk)
+pub length-more : (m : Mode) (b : ℕ) (chunk : List ℕ) → length (written_characters m (b ∷ chunk)) ≡ count_for m b + length (written_characters m chunk)
+length-more m b chunk = length-append (characters_for m b) (written_characters m chunk)
 
 -- an open segment that goes on with a chunk, before the rest, takes no fewer bits than are counted
 abbrev GoesLeast : Headers → Mode → List ℕ → List ℕ → Type 0
 GoesLeast h m chunk rest =
-    (n : ℕ) → can_stand m chunk ≡ true → data_bits_count m n + (left (costs_of h (chunk ++ rest)) m n).bits ≤ data_bits_count m (n + length (characters m chunk)) + fewest h rest
+    (n : ℕ) → can_stand m chunk ≡ true → data_bits_count m n + (left (costs_of h (chunk ++ rest)) m n).bits ≤ data_bits_count m (n + length (written_characters m chunk)) + fewest h rest
 
 -- nor with one more byte in front of the chunk
 adds_least : (h : Headers) (m : Mode) (b : ℕ) (chunk rest : List ℕ) (n : ℕ) (way : Way) → GoesLeast h m chunk rest → Adds m n b (first_byte (chunk ++ rest)) (costs_of h (chunk ++ rest)) way
-    → can_stand m (b ∷ chunk) ≡ true → data_bits_count m n + way.bits ≤ data_bits_count m (n + length (characters m (b ∷ chunk))) + fewest h rest
+    → can_stand m (b ∷ chunk) ≡ true → data_bits_count m n + way.bits ≤ data_bits_count m (n + length (written_characters m (b ∷ chunk))) + fewest h rest
 adds_least h m b [] rest n way more a can =
     let count = n + count_for m b in
-    let e : count ≡ n + length (characters m (b ∷ [])) = omega (arith, length-more m b []) in
+    let e : count ≡ n + length (written_characters m (b ∷ [])) = omega (arith, length-more m b []) in
     omega (arith, a.adds, ap (λ (w : Way). w.bits) a.is, after_end h rest m count (must_end m b (first_byte rest)), ap (data_bits_count m) e)
 adds_least h m b (c ∷ chunk) rest n way more a can =
     let count = n + count_for m b in
     let bytes = c ∷ chunk in
     let parts = and_parts (has_characters m b) (not (must_end m b c) && can_stand m bytes) can in
     let both = and_parts (not (must_end m b c)) (can_stand m bytes) parts.1 in
-    let e : count + length (characters m bytes) ≡ n + length (characters m (b ∷ bytes)) = omega (arith, length-more m b bytes) in
+    let e : count + length (written_characters m bytes) ≡ n + length (written_characters m (b ∷ bytes)) = omega (arith, length-more m b bytes) in
     omega (
       arith,
       a.adds,
@@ -103,9 +103,9 @@ goes_least h m (b ∷ chunk) rest = λ n can.
 -- the best start takes at most the bits of any segment that begins here
 pub start_least : (h : Headers) (b follows : ℕ) (next : Costs) (m : Mode) → goes_with m b ≡ true → (best_start h b follows next).bits ≤ header_of h m + (begun m b follows next).bits
 start_least h b follows next m can =
-    let bytes = with_header Byte h.byte (behind 8 next.bytes) in
+    let bytes = with_header Byte h.byte (after_byte 8 next.bytes) in
     let letters = with_header Alphanumeric h.alphanumeric (even_on b follows next) in
-    let digits = with_header Numeric h.numeric (behind 4 next.one_digit) in
+    let digits = with_header Numeric h.numeric (after_byte 4 next.one_digit) in
     let two = better bytes (has_characters Alphanumeric b) letters in
     let first = better_first two (has_characters Numeric b) digits in
     elim m as (λ m. goes_with m b ≡ true → (best_start h b follows next).bits ≤ header_of h m + (begun m b follows next).bits) [
@@ -121,13 +121,13 @@ none_before m = grind (arith, nat_tests)
 
 -- nor does a segment before the rest take fewer bits than are counted
 pub segment_least : (h : Headers) (m : Mode) (chunk rest : List ℕ) → 0 < length chunk → can_stand m chunk ≡ true
-    → fewest h (chunk ++ rest) ≤ header_of h m + data_bits_count m (length (characters m chunk)) + fewest h rest
+    → fewest h (chunk ++ rest) ≤ header_of h m + data_bits_count m (length (written_characters m chunk)) + fewest h rest
 segment_least h m [] rest some can = absurd (omega arith)
 segment_least h m (b ∷ chunk) rest some can =
     let follows = first_byte (chunk ++ rest) in
     let next = costs_of h (chunk ++ rest) in
     let parts = and_parts (has_characters m b) (not (must_end m b (first_byte chunk)) && can_stand m chunk) can in
-    let e : 0 + length (characters m (b ∷ chunk)) ≡ length (characters m (b ∷ chunk)) = omega arith in
+    let e : 0 + length (written_characters m (b ∷ chunk)) ≡ length (written_characters m (b ∷ chunk)) = omega arith in
     omega (
       arith,
       start_least h b follows next m (can_go m b parts.0),

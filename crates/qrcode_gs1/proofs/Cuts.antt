@@ -19,7 +19,7 @@ use Rattle.qrcode_bits.specs.Written.{Piece, written_piece, written}
 use Rattle.qrcode_bits.specs.declared.optimize.Segment.{Segment}
 use Rattle.qrcode_bits.proofs.Lengths.{length-piece}
 use Rattle.qrcode_bits.proofs.SegmentRanges.{length-range, tile_le, all-drop}
-use Rattle.qrcode_gs1.specs.symbol.Characters.{characters, marked_pieces, can_stand}
+use Rattle.qrcode_gs1.specs.symbol.Characters.{written_characters, marked_pieces, can_stand}
 use Rattle.qrcode_gs1.specs.symbol.Cuts.{IsMarkedCut, IsLeastMarkedCut, marked_cost}
 use Rattle.qrcode_gs1.specs.symbol.Fewest.{AreFew, AreAllFew, AreSmall, headers_of, step, costs_of}
 use Rattle.qrcode_gs1.specs.declared.symbol.costs.Costs.{Costs}
@@ -35,13 +35,13 @@ AreStanding bytes ss = AllByRecursion (λ s. IsTrue (can_stand s.mode (slice_ran
 
 -- the bits of a segment
 abbrev pub piece_bits : Version → List ℕ → Segment → ℕ
-piece_bits v bytes s = header_of (headers_of v) s.mode + data_bits_count s.mode (length (characters s.mode (slice_range bytes s.begin s.end)))
+piece_bits v bytes s = header_of (headers_of v) s.mode + data_bits_count s.mode (length (written_characters s.mode (slice_range bytes s.begin s.end)))
 
 abbrev piece : Mode → List ℕ → Piece
-piece m chunk = record { mode = m; chunk = characters m chunk }
+piece m chunk = record { mode = m; chunk = written_characters m chunk }
 
 length-written : (v : Version) (m : Mode) (chunk : List ℕ) → 0 < length chunk → can_stand m chunk ≡ true
-    → length (written_piece v (piece m chunk)) ≡ header_of (headers_of v) m + data_bits_count m (length (characters m chunk))
+    → length (written_piece v (piece m chunk)) ≡ header_of (headers_of v) m + data_bits_count m (length (written_characters m chunk))
 length-written v Numeric chunk some can = length-piece v (piece Numeric chunk)
 length-written v Alphanumeric chunk some can = length-piece v (piece Alphanumeric chunk)
 length-written v Byte chunk some can = length-piece v (piece Byte chunk)

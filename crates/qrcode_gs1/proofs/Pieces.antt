@@ -20,7 +20,7 @@ use Rattle.qrcode_bits.specs.declared.optimize.Segment.{Segment}
 use Rattle.qrcode_bits.proofs.CutPieces.{pieces_bytes, length-written}
 use Rattle.qrcode_bits.proofs.SegmentRanges.{length-range, tile_le, tile-push}
 use Rattle.qrcode_bits.proofs.Shortness.{capacity_at_most}
-use Rattle.qrcode_gs1.specs.symbol.Characters.{characters_for, characters, shown, marked_pieces}
+use Rattle.qrcode_gs1.specs.symbol.Characters.{characters_for, written_characters, shown, marked_pieces}
 use Rattle.qrcode_gs1.specs.symbol.Cuts.{IsMarkedCut, AreCharacters, marked_cost}
 use Rattle.qrcode_gs1.specs.symbol.Symbols.{HoldsMarked}
 use Rattle.qrcode_gs1.specs.declared.symbol.Fnc1.{Fnc1}
@@ -77,9 +77,9 @@ pieces_last w [] s = refl
 pieces_last w (r ∷ ss) s = ap (λ ps. (let p : Piece = record { mode = r.mode; chunk = slice_range w r.begin r.end } in p) ∷ ps) (pieces_last w ss s)
 
 marked_last : (bytes : List ℕ) (ss : List Segment) (s : Segment)
-    → marked_pieces bytes (ss ++ s ∷ []) ≡ marked_pieces bytes ss ++ (let p : Piece = record { mode = s.mode; chunk = characters s.mode (slice_range bytes s.begin s.end) } in p) ∷ []
+    → marked_pieces bytes (ss ++ s ∷ []) ≡ marked_pieces bytes ss ++ (let p : Piece = record { mode = s.mode; chunk = written_characters s.mode (slice_range bytes s.begin s.end) } in p) ∷ []
 marked_last bytes [] s = refl
-marked_last bytes (r ∷ ss) s = ap (λ ps. (let p : Piece = record { mode = r.mode; chunk = characters r.mode (slice_range bytes r.begin r.end) } in p) ∷ ps) (marked_last bytes ss s)
+marked_last bytes (r ∷ ss) s = ap (λ ps. (let p : Piece = record { mode = r.mode; chunk = written_characters r.mode (slice_range bytes r.begin r.end) } in p) ∷ ps) (marked_last bytes ss s)
 
 -- a range at the end
 range_last : (w chunk : List ℕ) → slice_range (w ++ chunk) (length w) (length w + length chunk) ≡ chunk
@@ -88,12 +88,12 @@ range_last w chunk =
     ap₂ take z (drop-append_seam w chunk) ∙ take_all (length chunk) chunk (omega arith)
 
 -- the characters of one more segment
-pub characters_more : (bytes : List ℕ) (ss : List Segment) (s : Segment) (w : List ℕ) (ranges : List Segment) → AreCharacters bytes ss w ranges → 0 < length (characters s.mode (slice_range bytes s.begin s.end))
-    → let chunk = characters s.mode (slice_range bytes s.begin s.end) in
+pub characters_more : (bytes : List ℕ) (ss : List Segment) (s : Segment) (w : List ℕ) (ranges : List Segment) → AreCharacters bytes ss w ranges → 0 < length (written_characters s.mode (slice_range bytes s.begin s.end))
+    → let chunk = written_characters s.mode (slice_range bytes s.begin s.end) in
     let range : Segment = record { mode = s.mode; begin = length w; end = length w + length chunk } in
     AreCharacters bytes (ss ++ s ∷ []) (w ++ chunk) (ranges ++ range ∷ [])
 characters_more bytes ss s w ranges are some =
-    let chunk = characters s.mode (slice_range bytes s.begin s.end) in
+    let chunk = written_characters s.mode (slice_range bytes s.begin s.end) in
     let range : Segment = record { mode = s.mode; begin = length w; end = length w + length chunk } in
     record {
       tiles = subst (Tile 0 (ranges ++ range ∷ [])) (sym (length-append w chunk)) (tile-push 0 ranges range are.tiles (omega (arith, some)));
@@ -106,9 +106,9 @@ some_for : (m : Mode) (b : ℕ) → 0 < length (characters_for m b)
 some_for m b = grind (arith, nat_tests)
 
 -- there are at least as many characters as bytes
-pub characters_some : (m : Mode) (bytes : List ℕ) → length bytes ≤ length (characters m bytes)
+pub characters_some : (m : Mode) (bytes : List ℕ) → length bytes ≤ length (written_characters m bytes)
 characters_some m [] = omega arith
-characters_some m (b ∷ bytes) = omega (arith, length-append (characters_for m b) (characters m bytes), some_for m b, characters_some m bytes)
+characters_some m (b ∷ bytes) = omega (arith, length-append (characters_for m b) (written_characters m bytes), some_for m b, characters_some m bytes)
 
 -- the segments of a tiling are not empty, and lie inside
 pub tile_at : (from : ℕ) (ss : List Segment) (to i : ℕ) (d : Segment) → Tile from ss to → i < length ss → ((get_or ss i d).begin < (get_or ss i d).end) × ((get_or ss i d).end ≤ to)
@@ -135,7 +135,7 @@ cost_long v bytes from (s ∷ ss) t are =
       t.1.0,
       length-range bytes s.begin s.end (omega (arith, t.1.0)) inside,
       characters_some s.mode chunk,
-      least_bits s.mode (length (characters s.mode chunk)),
+      least_bits s.mode (length (written_characters s.mode chunk)),
       cost_first v bytes s ss,
       segment_costs v bytes s t.1.0 inside are.0,
       cost_long v bytes s.end ss t.1.1 are.1,

@@ -10,8 +10,8 @@ use Rattle.qrcode_types.specs.declared.types.Mode.{Mode}
 use Rattle.qrcode_types.specs.declared.types.Mode.TheVariants.{Numeric, Alphanumeric, Byte}
 use Rattle.qrcode_bits.specs.Tokens.{first_byte}
 use Rattle.qrcode_bits.proofs.SegmentRanges.{all-drop}
-use Rattle.qrcode_gs1.specs.symbol.Characters.{characters, has_characters, must_end, can_stand}
-use Rattle.qrcode_gs1.specs.symbol.Fewest.{behind, ends, goes_or, better, with_header, even_on, best_start, costs_of}
+use Rattle.qrcode_gs1.specs.symbol.Characters.{written_characters, has_characters, must_end, can_stand}
+use Rattle.qrcode_gs1.specs.symbol.Fewest.{after_byte, ends, goes_or, better, with_header, even_on, best_start, costs_of}
 use Rattle.qrcode_gs1.specs.declared.symbol.costs.Headers.{Headers}
 use Rattle.qrcode_gs1.specs.declared.symbol.costs.Start.{Start}
 use Rattle.qrcode_gs1.specs.declared.symbol.costs.Way.{Way}
@@ -25,7 +25,7 @@ pub record Parts (h : Headers) (m : Mode) (n : ℕ) (bytes : List ℕ) (way : Wa
   pub parted : bytes ≡ chunk ++ rest
   pub count : length chunk ≡ way.taken
   pub stands : can_stand m chunk ≡ true
-  pub adds : data_bits_count m n + way.bits ≡ data_bits_count m (n + length (characters m chunk)) + fewest h rest
+  pub adds : data_bits_count m n + way.bits ≡ data_bits_count m (n + length (written_characters m chunk)) + fewest h rest
 
 -- the better of two is one of them
 way_or : (w : Way) (t : Bool) (other : Way) → (goes_or w t other ≡ w) ⊎ ((goes_or w t other ≡ other) × (t ≡ true))
@@ -58,8 +58,8 @@ parts_on h m n b bytes way has a p =
     let follows = first_byte bytes in
     elim (cases_Bool (must_end m b follows)) [
       | inl end ↦
-          let is : way ≡ behind a.bits (ends next.start) = a.is ∙ ap (λ t. behind a.bits (after next m count t)) end in
-          let e : count ≡ n + length (characters m (b ∷ [])) = omega (arith, length-more m b []) in (
+          let is : way ≡ after_byte a.bits (ends next.start) = a.is ∙ ap (λ t. after_byte a.bits (after next m count t)) end in
+          let e : count ≡ n + length (written_characters m (b ∷ [])) = omega (arith, length-more m b []) in (
             record {
               chunk = b ∷ [];
               rest = bytes;
@@ -71,8 +71,8 @@ parts_on h m n b bytes way has a p =
             omega (arith, ap (λ (w : Way). w.taken) is),
           )
       | inr goes ↦
-          let is : way ≡ behind a.bits (left next m count) = a.is ∙ ap (λ t. behind a.bits (after next m count t)) goes in
-          let e : count + length (characters m p.chunk) ≡ n + length (characters m (b ∷ p.chunk)) = omega (arith, length-more m b p.chunk) in
+          let is : way ≡ after_byte a.bits (left next m count) = a.is ∙ ap (λ t. after_byte a.bits (after next m count t)) goes in
+          let e : count + length (written_characters m p.chunk) ≡ n + length (written_characters m (b ∷ p.chunk)) = omega (arith, length-more m b p.chunk) in
           let taken = ap (λ (w : Way). w.taken) is in (
             record {
               chunk = b ∷ p.chunk;
@@ -122,9 +122,9 @@ begins h b bytes are =
     let way = begun m b follows next in
     let p = parts_on h m 0 b bytes way (has_from m b are.0 can) (begun_adds m b follows next) (parts_of h bytes are.1 m (0 + count_for m b)) in
     subst (Begins h (b ∷ bytes)) (sym is) (record { way = way; parts = p.0; bits = refl; taken = refl; some = p.1 }) in
-    let bytes_start = with_header Byte h.byte (behind 8 next.bytes) in
+    let bytes_start = with_header Byte h.byte (after_byte 8 next.bytes) in
     let letters = with_header Alphanumeric h.alphanumeric (even_on b follows next) in
-    let digits = with_header Numeric h.numeric (behind 4 next.one_digit) in
+    let digits = with_header Numeric h.numeric (after_byte 4 next.one_digit) in
     let two = better bytes_start (has_characters Alphanumeric b) letters in
     elim (start_or two (has_characters Numeric b) digits) [
       | inl is ↦ elim (start_or bytes_start (has_characters Alphanumeric b) letters) [
@@ -139,7 +139,7 @@ pub record IsFirst (h : Headers) (bytes : List ℕ) (place : ℕ) (s : Start) : 
   pub some : 0 < s.taken
   pub inside : place + s.taken ≤ length bytes
   pub stands : can_stand s.mode (slice_range bytes place (place + s.taken)) ≡ true
-  pub adds : fewest h (drop place bytes) ≡ header_of h s.mode + data_bits_count s.mode (length (characters s.mode (slice_range bytes place (place + s.taken)))) + fewest h (drop (place + s.taken) bytes)
+  pub adds : fewest h (drop place bytes) ≡ header_of h s.mode + data_bits_count s.mode (length (written_characters s.mode (slice_range bytes place (place + s.taken)))) + fewest h (drop (place + s.taken) bytes)
 
 first_in : (h : Headers) (bytes : List ℕ) (place : ℕ) (s : Start) → place ≤ length bytes → s.bits ≡ fewest h (drop place bytes) → Begins h (drop place bytes) s → IsFirst h bytes place s
 first_in h bytes place s low is k =
@@ -151,7 +151,7 @@ first_in h bytes place s low is k =
     let behind_it : drop (place + n) bytes ≡ p.rest = sym (drop-drop n place bytes) ∙ ap (drop n) p.parted ∙ drop_at p.chunk p.rest n long in
     let z : place + n - place ≡ n = omega arith in
     let same : slice_range bytes place (place + n) ≡ p.chunk = ap₂ take z p.parted ∙ take_at p.chunk p.rest n long in
-    let e : 0 + length (characters m p.chunk) ≡ length (characters m (slice_range bytes place (place + n))) = omega (arith, ap (λ bs. length (characters m bs)) same) in
+    let e : 0 + length (written_characters m p.chunk) ≡ length (written_characters m (slice_range bytes place (place + n))) = omega (arith, ap (λ bs. length (written_characters m bs)) same) in
     record {
       some = k.some;
       inside = omega (arith, count, low, k.some);

@@ -13,8 +13,8 @@ use Rattle.qrcode_gs1.specs.declared.errors.Gs1Error.{Gs1Error}
 use Rattle.qrcode_gs1.specs.declared.errors.Gs1Error.TheVariants.{OutOfMemory}
 use Rattle.qrcode_gs1.specs.declared.errors.Cause.{Cause}
 use Rattle.qrcode_gs1.specs.declared.errors.Cause.TheVariants.{Length, Character, CheckDigit, Range}
-use Rattle.qrcode_gs1.specs.Elements.{Item, number_of, prefix_of, digit_count, fixed_length, is_fixed, separator, element_string, before_separator, behind_separator, first_element, item_of, read_items, read_elements, are_apart}
-use Rattle.qrcode_gs1.specs.Refusals.{is_digit, is_character, is_identifier, numbered_rule, is_checked, is_dated, is_date, cause_by, cause_found, cause_of, refusal_or, refusal_from, checked, Answers}
+use Rattle.qrcode_gs1.specs.Elements.{Item, decimal_value, prefix_of, digit_count, fixed_length, is_fixed, separator, element_string, before_separator, behind_separator, first_element, item_of, read_items, read_elements, are_apart}
+use Rattle.qrcode_gs1.specs.Refusals.{is_digit, is_character, is_identifier, numbered_rule, has_check_digit, is_dated, is_date, cause_by, cause_found, cause_of, refusal_or, refusal_from, checked, Answers}
 use Rattle.qrcode_gs1.specs.Table.{Rule, rules}
 
 -- bytes without a separator
@@ -45,7 +45,7 @@ tests_pass a b c d h = grind (arith, nat_tests)
 
 value_passes : (rule : Rule) (item : Item) → cause_by rule item ≡ None → ((not (is_fixed item.0) || (length item.0 + length item.1 == fixed_length (prefix_of item.0))) ≡ true) × (is_plain item.1 ≡ true)
 value_passes rule item is =
-    let tests = tests_pass _ _ (is_checked (take rule.3 item.1)) (is_dated item.0 && not (is_date item.1)) is in
+    let tests = tests_pass _ _ (has_check_digit (take rule.3 item.1)) (is_dated item.0 && not (is_date item.1)) is in
     ((and_parts _ _ tests.0).1, all_plain is_character character_is_plain item.1 (and_parts _ _ tests.1).0)
 
 rule_passes : (known : Bool) (rule : Option Rule) (item : Item) → cause_found (if known then rule else None) item ≡ None → (known ≡ true) × (((not (is_fixed item.0) || (length item.0 + length item.1 == fixed_length (prefix_of item.0))) ≡ true) × (is_plain item.1 ≡ true))
@@ -55,7 +55,7 @@ rule_passes true (Some rule) item is = (refl, value_passes rule item is)
 
 whole : (item : Item) → cause_of item ≡ None → Whole item
 whole item is =
-    let tests = rule_passes (is_identifier item.0) (numbered_rule rules (number_of item.0)) item is in
+    let tests = rule_passes (is_identifier item.0) (numbered_rule rules (decimal_value item.0)) item is in
     let known = and_parts (length item.0 == digit_count (prefix_of item.0)) (list_all is_digit item.0) tests.0 in
     record {
       long = eqb-true _ _ known.0;
@@ -92,7 +92,7 @@ item_least : (item : Item) → Whole item → 2 ≤ length (item.0 ++ item.1)
 item_least item is = omega (arith, identifier_least item is, length-append item.0 item.1)
 
 prefix_more : (bytes later : List ℕ) → 2 ≤ length bytes → prefix_of (bytes ++ later) ≡ prefix_of bytes
-prefix_more bytes later least = ap number_of (take-append-le 2 bytes later least)
+prefix_more bytes later least = ap decimal_value (take-append-le 2 bytes later least)
 
 -- bytes up to a separator
 before_plain : (bytes later : List ℕ) → is_plain bytes ≡ true → before_separator (bytes ++ later) ≡ bytes ++ before_separator later

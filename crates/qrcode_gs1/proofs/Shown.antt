@@ -6,7 +6,7 @@ use Rattle.qrcode_types.specs.declared.types.Mode.{Mode}
 use Rattle.qrcode_types.specs.declared.types.Mode.TheVariants.{Numeric, Alphanumeric, Byte, Kanji}
 use Rattle.qrcode_bits.specs.Tokens.{first_byte}
 use Rattle.qrcode_bits.proofs.SegmentRanges.{write_both, write_none}
-use Rattle.qrcode_gs1.specs.symbol.Characters.{characters_for, characters, has_characters, must_end, can_stand, undoubled, shown_in}
+use Rattle.qrcode_gs1.specs.symbol.Characters.{characters_for, written_characters, has_characters, must_end, can_stand, undoubled, shown_in}
 
 percent_is : is_alphanumeric 37 ≡ true
 unfolding is_alphanumeric alphabet
@@ -45,12 +45,12 @@ one_written Byte b has = and_from _ _ has refl
 one_written Kanji b has = absurd (true≢false (sym has))
 
 -- a mode can write the characters of a segment
-pub characters_written : (m : Mode) (bytes : List ℕ) → can_stand m bytes ≡ true → can_write m (characters m bytes) ≡ true
+pub characters_written : (m : Mode) (bytes : List ℕ) → can_stand m bytes ≡ true → can_write m (written_characters m bytes) ≡ true
 characters_written m [] can = write_none m
 characters_written m (b ∷ bytes) can =
     let parts = and_parts (has_characters m b) (not (must_end m b (first_byte bytes)) && can_stand m bytes) can in
     let both = and_parts (not (must_end m b (first_byte bytes))) (can_stand m bytes) parts.1 in
-    write_both m (characters_for m b) (characters m bytes) (one_written m b parts.0) (characters_written m bytes both.1)
+    write_both m (characters_for m b) (written_characters m bytes) (one_written m b parts.0) (characters_written m bytes both.1)
 
 -- a character other than a percent sign is read as it is
 other_first : (b : ℕ) (more : List ℕ) → (b == 37) ≡ false → undoubled (b ∷ more) ≡ b ∷ undoubled more
@@ -67,28 +67,28 @@ left_no true b is = absurd (true≢false is)
 left_no false b is = refl
 
 -- the characters after a separator do not begin with a percent sign
-behind_separator : (bytes : List ℕ) → must_end Alphanumeric 29 (first_byte bytes) ≡ false → (first_byte (characters Alphanumeric bytes) == 37) ≡ false
+behind_separator : (bytes : List ℕ) → must_end Alphanumeric 29 (first_byte bytes) ≡ false → (first_byte (written_characters Alphanumeric bytes) == 37) ≡ false
 behind_separator [] goes = refl
 behind_separator (c ∷ bytes) goes =
     let percent = neither (c == 29) (c == 37) goes in
-    ap (λ cs. first_byte (cs ++ characters Alphanumeric bytes) == 37) (other_for c (left_no (c == 29) (c == 37) goes) percent) ∙ percent
+    ap (λ cs. first_byte (cs ++ written_characters Alphanumeric bytes) == 37) (other_for c (left_no (c == 29) (c == 37) goes) percent) ∙ percent
 
-letters_shown : (bytes : List ℕ) → can_stand Alphanumeric bytes ≡ true → undoubled (characters Alphanumeric bytes) ≡ bytes
+letters_shown : (bytes : List ℕ) → can_stand Alphanumeric bytes ≡ true → undoubled (written_characters Alphanumeric bytes) ≡ bytes
 letters_shown [] can = refl
 letters_shown (b ∷ bytes) can =
-    let more = characters Alphanumeric bytes in
+    let more = written_characters Alphanumeric bytes in
     let parts = and_parts (has_characters Alphanumeric b) (not (must_end Alphanumeric b (first_byte bytes)) && can_stand Alphanumeric bytes) can in
     let both = and_parts (not (must_end Alphanumeric b (first_byte bytes))) (can_stand Alphanumeric bytes) parts.1 in
     by_byte (λ n chunk. must_end Alphanumeric n (first_byte bytes) ≡ false → undoubled (chunk ++ more) ≡ n ∷ undoubled more)
     (λ goes. separator_first more (behind_separator bytes goes)) (λ goes. refl) b (λ plain none goes. other_first b more none) (not-true _ both.0)
     ∙ ap (λ ys. b ∷ ys) (letters_shown bytes both.1)
 
-same_bytes : (m : Mode) → ((b : ℕ) → characters_for m b ≡ b ∷ []) → (bytes : List ℕ) → characters m bytes ≡ bytes
+same_bytes : (m : Mode) → ((b : ℕ) → characters_for m b ≡ b ∷ []) → (bytes : List ℕ) → written_characters m bytes ≡ bytes
 same_bytes m same [] = refl
 same_bytes m same (b ∷ bytes) = ap₂ (λ (x y : List ℕ). x ++ y) (same b) (same_bytes m same bytes)
 
 -- a reader gets the bytes back from the characters of a segment
-pub chunk_shown : (m : Mode) (bytes : List ℕ) → can_stand m bytes ≡ true → shown_in m (characters m bytes) ≡ bytes
+pub chunk_shown : (m : Mode) (bytes : List ℕ) → can_stand m bytes ≡ true → shown_in m (written_characters m bytes) ≡ bytes
 chunk_shown Numeric bytes can = same_bytes Numeric (λ b. refl) bytes
 chunk_shown Alphanumeric bytes can = letters_shown bytes can
 chunk_shown Byte bytes can = same_bytes Byte (λ b. refl) bytes

@@ -6,7 +6,7 @@ use Rattle.qrcode_types.specs.Modes.{data_bits_count}
 use Rattle.qrcode_types.specs.declared.types.Mode.{Mode}
 use Rattle.qrcode_types.specs.declared.types.Mode.TheVariants.{Numeric, Alphanumeric, Byte, Kanji}
 use Rattle.qrcode_gs1.specs.symbol.Characters.{characters_for, has_characters, must_end}
-use Rattle.qrcode_gs1.specs.symbol.Fewest.{behind, ends, goes_or, even_on, best_start, step, at_end, end_start}
+use Rattle.qrcode_gs1.specs.symbol.Fewest.{after_byte, ends, goes_or, even_on, best_start, step, at_end, end_start}
 use Rattle.qrcode_gs1.specs.declared.symbol.costs.Costs.{Costs}
 use Rattle.qrcode_gs1.specs.declared.symbol.costs.Headers.{Headers}
 use Rattle.qrcode_gs1.specs.declared.symbol.costs.Way.{Way}
@@ -47,7 +47,7 @@ count_for m b = length (characters_for m b)
 pub record Adds (m : Mode) (n b follows : ℕ) (next : Costs) (way : Way) : Type 0 where
   pub bits : ℕ
   pub adds : data_bits_count m n + bits ≡ data_bits_count m (n + count_for m b)
-  pub is : way ≡ behind bits (after next m (n + count_for m b) (must_end m b follows))
+  pub is : way ≡ after_byte bits (after next m (n + count_for m b) (must_end m b follows))
 
 -- an open segment ends, or it goes on with the byte
 pub record Stepped (h : Headers) (b follows : ℕ) (next : Costs) (m : Mode) (n : ℕ) : Type 0 where
@@ -69,30 +69,30 @@ ended_letter b follows is = ap (λ (k : ℕ). count_for Alphanumeric k) (eqb-tru
 
 letters_add : (n b follows : ℕ) (next : Costs) (one : ℕ) (first second : Way) → first ≡ left next Alphanumeric (n + 1) → second ≡ left next Alphanumeric (n + 2)
     → data_bits_count Alphanumeric n + one ≡ data_bits_count Alphanumeric (n + 1) → data_bits_count Alphanumeric n + 11 ≡ data_bits_count Alphanumeric (n + 2)
-    → Adds Alphanumeric n b follows next (if must_end Alphanumeric b follows then behind one (ends next.start) else (if b == 37 then behind 11 second else behind one first))
+    → Adds Alphanumeric n b follows next (if must_end Alphanumeric b follows then after_byte one (ends next.start) else (if b == 37 then after_byte 11 second else after_byte one first))
 letters_add n b follows next one first second is_first is_second single double =
     let m = must_end Alphanumeric b follows in
-    let way : Bool → Bool → Way = λ s t. if s then behind one (ends next.start) else (if t then behind 11 second else behind one first) in
+    let way : Bool → Bool → Way = λ s t. if s then after_byte one (ends next.start) else (if t then after_byte 11 second else after_byte one first) in
     let D : ℕ → ℕ = λ k. data_bits_count Alphanumeric (n + k) in
     let count = count_for Alphanumeric b in
     elim (cases_Bool m) [
       | inl end ↦ record {
         bits = one;
         adds = single ∙ ap D (sym (ended_letter b follows end));
-        is = ap (λ s. way s (b == 37)) end ∙ ap (λ s. behind one (after next Alphanumeric (n + count) s)) (sym end);
+        is = ap (λ s. way s (b == 37)) end ∙ ap (λ s. after_byte one (after next Alphanumeric (n + count) s)) (sym end);
       }
       | inr no_end ↦ elim (cases_Bool (b == 37)) [
         | inl percent ↦ record {
           bits = 11;
           adds = double ∙ ap D (sym (two_letters b percent));
-          is = ap₂ way no_end percent ∙ ap (behind 11) (is_second ∙ ap (λ k. left next Alphanumeric (n + k)) (sym (two_letters b percent)))
-              ∙ ap (λ s. behind 11 (after next Alphanumeric (n + count) s)) (sym no_end);
+          is = ap₂ way no_end percent ∙ ap (after_byte 11) (is_second ∙ ap (λ k. left next Alphanumeric (n + k)) (sym (two_letters b percent)))
+              ∙ ap (λ s. after_byte 11 (after next Alphanumeric (n + count) s)) (sym no_end);
         }
         | inr other ↦ record {
           bits = one;
           adds = single ∙ ap D (sym (one_letter b other));
-          is = ap₂ way no_end other ∙ ap (behind one) (is_first ∙ ap (λ k. left next Alphanumeric (n + k)) (sym (one_letter b other)))
-              ∙ ap (λ s. behind one (after next Alphanumeric (n + count) s)) (sym no_end);
+          is = ap₂ way no_end other ∙ ap (after_byte one) (is_first ∙ ap (λ k. left next Alphanumeric (n + k)) (sym (one_letter b other)))
+              ∙ ap (λ s. after_byte one (after next Alphanumeric (n + count) s)) (sym no_end);
         }
       ]
     ]
@@ -120,9 +120,9 @@ stepped h b follows next Numeric n =
     let now = step h b follows next in
     let of : (r : Costs) → ℕ → Way = λ r k. by_three k r.digits r.one_digit r.two_digits in
     elim (three n) [
-      | inl e ↦ let f : (n + 1) % 3 ≡ 1 = omega (arith, e) in record { way = behind 4 next.one_digit; is = ap (of now) e; adds = record { bits = 4; adds = omega (arith, e); is = ap (λ k. behind 4 (of next k)) (sym f) } }
-      | inr (inl e) ↦ let f : (n + 1) % 3 ≡ 2 = omega (arith, e) in record { way = behind 3 next.two_digits; is = ap (of now) e; adds = record { bits = 3; adds = omega (arith, e); is = ap (λ k. behind 3 (of next k)) (sym f) } }
-      | inr (inr e) ↦ let f : (n + 1) % 3 ≡ 0 = omega (arith, e) in record { way = behind 3 next.digits; is = ap (of now) e; adds = record { bits = 3; adds = omega (arith, e); is = ap (λ k. behind 3 (of next k)) (sym f) } }
+      | inl e ↦ let f : (n + 1) % 3 ≡ 1 = omega (arith, e) in record { way = after_byte 4 next.one_digit; is = ap (of now) e; adds = record { bits = 4; adds = omega (arith, e); is = ap (λ k. after_byte 4 (of next k)) (sym f) } }
+      | inr (inl e) ↦ let f : (n + 1) % 3 ≡ 2 = omega (arith, e) in record { way = after_byte 3 next.two_digits; is = ap (of now) e; adds = record { bits = 3; adds = omega (arith, e); is = ap (λ k. after_byte 3 (of next k)) (sym f) } }
+      | inr (inr e) ↦ let f : (n + 1) % 3 ≡ 0 = omega (arith, e) in record { way = after_byte 3 next.digits; is = ap (of now) e; adds = record { bits = 3; adds = omega (arith, e); is = ap (λ k. after_byte 3 (of next k)) (sym f) } }
     ]
 stepped h b follows next Alphanumeric n =
     let now = step h b follows next in
@@ -137,15 +137,15 @@ stepped h b follows next Alphanumeric n =
           let g : (n + 2) % 2 ≡ 1 = omega (arith, e) in
           record { way = _; is = ap (of now) e; adds = letters_add n b follows next 5 next.letters next.odd_letter (ap (of next) (sym f)) (ap (of next) (sym g)) (omega (arith, e)) (omega arith) }
     ]
-stepped h b follows next Byte n = record { way = behind 8 next.bytes; is = refl; adds = record { bits = 8; adds = omega arith; is = refl } }
-stepped h b follows next Kanji n = record { way = behind 13 (ends next.start); is = refl; adds = record { bits = 13; adds = omega arith; is = refl } }
+stepped h b follows next Byte n = record { way = after_byte 8 next.bytes; is = refl; adds = record { bits = 8; adds = omega arith; is = refl } }
+stepped h b follows next Kanji n = record { way = after_byte 13 (ends next.start); is = refl; adds = record { bits = 13; adds = omega arith; is = refl } }
 
 -- how a segment that begins goes on from its first byte
 abbrev pub begun : Mode → ℕ → ℕ → Costs → Way
-begun Numeric b follows next = behind 4 next.one_digit
+begun Numeric b follows next = after_byte 4 next.one_digit
 begun Alphanumeric b follows next = even_on b follows next
-begun Byte b follows next = behind 8 next.bytes
-begun Kanji b follows next = behind 13 (ends next.start)
+begun Byte b follows next = after_byte 8 next.bytes
+begun Kanji b follows next = after_byte 13 (ends next.start)
 
 pub begun_adds : (m : Mode) (b follows : ℕ) (next : Costs) → Adds m 0 b follows next (begun m b follows next)
 begun_adds Numeric b follows next = record { bits = 4; adds = refl; is = refl }

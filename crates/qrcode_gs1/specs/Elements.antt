@@ -5,11 +5,11 @@ use Rattle.std.specs.Prelude.{ℕ, zero, suc, nat_lt, ◌==◌, ◌&&◌, ◌||�
 abbrev pub Item : Type 0  -- an identifier and its value
 Item = List ℕ × List ℕ
 
-abbrev pub number_of : List ℕ → ℕ  -- the number that digits write
-number_of digits = fold (λ number digit. number * 10 + (digit - 48)) 0 digits
+abbrev pub decimal_value : List ℕ → ℕ  -- the number that digits write
+decimal_value digits = fold (λ number digit. number * 10 + (digit - 48)) 0 digits
 
 abbrev pub prefix_of : List ℕ → ℕ  -- the number that the first two digits write
-prefix_of bytes = number_of (take 2 bytes)
+prefix_of bytes = decimal_value (take 2 bytes)
 
 abbrev pub is_within : ℕ → ℕ → ℕ → Bool  -- a number is at least one and at most another
 is_within least most n = not (nat_lt n least) && not (nat_lt most n)

@@ -7,7 +7,7 @@ use Rattle.qrcode_gs1.specs.declared.errors.Cause.{Cause}
 use Rattle.qrcode_gs1.specs.declared.errors.Cause.TheVariants.{UnknownIdentifier, Length, Character, CheckDigit, Range}
 use Rattle.qrcode_gs1.specs.declared.errors.Gs1Error.{Gs1Error}
 use Rattle.qrcode_gs1.specs.declared.errors.Gs1Error.TheVariants.{Refused, OutOfMemory}
-use Rattle.qrcode_gs1.specs.Elements.{Item, is_within, number_of, prefix_of, digit_count, fixed_length, is_fixed}
+use Rattle.qrcode_gs1.specs.Elements.{Item, is_within, decimal_value, prefix_of, digit_count, fixed_length, is_fixed}
 use Rattle.qrcode_gs1.specs.Table.{Rule, rules}
 
 abbrev pub is_digit : ℕ → Bool  -- a digit
@@ -30,26 +30,26 @@ abbrev pub is_identifier : List ℕ → Bool  -- an identifier is digits, as man
 is_identifier bytes = (length bytes == digit_count (prefix_of bytes)) && list_all is_digit bytes
 
 abbrev pub rule_of : List ℕ → Option Rule  -- the rule for an identifier
-rule_of bytes = if is_identifier bytes then numbered_rule rules (number_of bytes) else None
+rule_of bytes = if is_identifier bytes then numbered_rule rules (decimal_value bytes) else None
 
 abbrev pub weighted_sum : List ℕ → ℕ  -- the sum of the digits, with weight 1 for the last, 3 for the one before it, and so on in turn
 weighted_sum [] = 0
 weighted_sum (digit ∷ digits) = (1 + 2 * (length digits % 2)) * (digit - 48) + weighted_sum digits
 
-abbrev pub is_checked : List ℕ → Bool  -- the last digit makes the weighted sum a multiple of ten
-is_checked digits = weighted_sum digits % 10 == 0
+abbrev pub has_check_digit : List ℕ → Bool  -- the last digit makes the weighted sum a multiple of ten
+has_check_digit digits = weighted_sum digits % 10 == 0
 
 -- printed examples of 18, 14 and 13 digits, and one with a wrong digit
-logistic_unit_row : is_checked (codes "106141412345678908") ≡ true
+logistic_unit_row : has_check_digit (codes "106141412345678908") ≡ true
 logistic_unit_row = refl
 
-trade_item_row : is_checked (codes "09506000134352") ≡ true
+trade_item_row : has_check_digit (codes "09506000134352") ≡ true
 trade_item_row = refl
 
-location_row : is_checked (codes "4006381333931") ≡ true
+location_row : has_check_digit (codes "4006381333931") ≡ true
 location_row = refl
 
-wrong_row : is_checked (codes "09506000134353") ≡ false
+wrong_row : has_check_digit (codes "09506000134353") ≡ false
 wrong_row = refl
 
 -- the value has a length that the rule allows and, if it is predefined, the one that the identifier's first digits say
@@ -70,7 +70,7 @@ days_in year month =
     else (if month == 4 || month == 6 || month == 9 || month == 11 then 30 else 31)
 
 abbrev pub pair_at : ℕ → List ℕ → ℕ  -- the number of the two digits at a place
-pair_at i digits = number_of (take 2 (drop i digits))
+pair_at i digits = decimal_value (take 2 (drop i digits))
 
 -- six digits of year, month and day; day 00 leaves the day open
 unfoldable pub is_date : List ℕ → Bool
@@ -98,7 +98,7 @@ abbrev pub cause_by : Rule → Item → Option Cause  -- what is wrong with an e
 cause_by rule item =
     if not (has_length rule item) then Some Length
     else (if not (is_written rule item.1) then Some Character
-    else (if not (is_checked (take rule.3 item.1)) then Some CheckDigit
+    else (if not (has_check_digit (take rule.3 item.1)) then Some CheckDigit
     else (if is_dated item.0 && not (is_date item.1) then Some Range else None)))
 
 abbrev pub cause_found : Option Rule → Item → Option Cause  -- what is wrong with an element, by its rule if it has one

@@ -2,7 +2,7 @@
 
 ghost use Rattle.std.specs.Prelude.{◌≡◌};
 ghost use Rattle.std.specs.List.{list_all};
-ghost use Rattle.qrcode_gs1.specs.Refusals.{cause_of, days_in, has_length, is_character, is_checked, is_date, is_dated, is_written};
+ghost use Rattle.qrcode_gs1.specs.Refusals.{cause_of, days_in, has_length, is_character, has_check_digit, is_date, is_dated, is_written};
 
 use crate::errors::Cause;
 use crate::table::{Rule, are_digits, fixed_length, number_of, prefix_of, rule_of, start};
@@ -19,7 +19,7 @@ fn are_characters(bytes: &[u8]) -> bool
 
 // Returns whether the last digit is the check digit of those before it.
 fn is_checked(digits: &[u8]) -> bool
-    ensures { result ≡ is_checked digits.now }
+    ensures { result ≡ has_check_digit digits.now }
 {
     let mut sum: usize = 0;
     let mut left = digits.len();

@@ -2,7 +2,7 @@
 
 ghost use Rattle.std.specs.Prelude.{◌≡◌, ◌≤◌, length, take};
 ghost use Rattle.std.specs.List.{list_all};
-ghost use Rattle.qrcode_gs1.specs.Elements.{digit_count, fixed_length, number_of, prefix_of};
+ghost use Rattle.qrcode_gs1.specs.Elements.{digit_count, fixed_length, decimal_value, prefix_of};
 ghost use Rattle.qrcode_gs1.specs.Refusals.{is_digit, numbered_rule, rule_of};
 
 /// The rule for a range of identifiers: the first and the last of them; the shortest and the
@@ -134,7 +134,7 @@ pub fn start(bytes: &[u8], count: usize) -> &[u8]
 /// Returns the number that at most four digits write.
 pub fn number_of(digits: &[u8]) -> usize
     requires { length digits.now ≤ 4 }
-    ensures { result ≡ number_of digits.now }
+    ensures { result ≡ decimal_value digits.now }
 {
     let mut number: usize = 0;
     for digit in digits {

@@ -26,17 +26,17 @@ fields_of Upi = UPI
 fields_of Pix = PIX
 fields_of Promptpay = PROMPTPAY
 
-unfoldable pub is_same : Field → Field → Bool  -- whether two fields are the same
-is_same a b = (of_fields.ghosts).eq a b
+unfoldable pub is_same_field : Field → Field → Bool  -- whether two fields are the same
+is_same_field a b = (of_fields.ghosts).eq a b
 
-abbrev pub place_of : List Field → Field → ℕ  -- the index of a field; the number of fields if it is none of them
-place_of fields field = unwrap_or (position (λ one. is_same one field) fields) (length fields)
+abbrev pub field_index : List Field → Field → ℕ  -- the index of a field; the number of fields if it is none of them
+field_index fields field = unwrap_or (position (λ one. is_same_field one field) fields) (length fields)
 
 -- examples: a field of the kind, and one that it does not have
-password_row : place_of WIFI Password ≡ 1
-unfolding is_same
+password_row : field_index WIFI Password ≡ 1
+unfolding is_same_field
 password_row = refl
 
-none_row : place_of WIFI Secret ≡ 4
-unfolding is_same
+none_row : field_index WIFI Secret ≡ 4
+unfolding is_same_field
 none_row = refl

@@ -3,7 +3,7 @@ use Rattle.std.specs.Prelude.{◌≡◌, ℕ, ◌==◌, ◌&&◌, ◌||◌, ◌-
 use Rattle.std.specs.List.{after_first, before_first, filter_map, list_all, list_any, starts_with}
 use Rattle.std.specs.Char.{to_ascii_lowercase, to_ascii_uppercase}
 use Rattle.std.specs.Str.{trim}
-use Rattle.qrcode_contents.specs.Phone.{is_number}
+use Rattle.qrcode_contents.specs.Phone.{is_phone_number}
 use Rattle.qrcode_contents.specs.fields.Characters.{is_capital_or_digit, is_digit, matches_form}
 use Rattle.qrcode_contents.specs.fields.Entries.{is_empty}
 use Rattle.qrcode_payloads.specs.declared.plain.Cleaning.{Cleaning}
@@ -74,11 +74,11 @@ without_zero number =
 abbrev pub phone_number : List ℕ → List ℕ  -- a telephone number without spaces, and with what is dialled of such a (0)
 phone_number text = without_zero (plain Spaces text)
 
-abbrev pub digits_of : List ℕ → List ℕ  -- a telephone number without the characters between its digits; any other text unchanged, so that it is rejected
-digits_of text = if is_number text then plain Digits text else text
+abbrev pub bare_digits : List ℕ → List ℕ  -- a telephone number without the characters between its digits; any other text unchanged, so that it is rejected
+bare_digits text = if is_phone_number text then plain Digits text else text
 
 abbrev pub phone_digits : List ℕ → List ℕ  -- a telephone number as MECARD writes it: digits, perhaps after a plus sign
-phone_digits text = digits_of (phone_number text)
+phone_digits text = bare_digits (phone_number text)
 
 -- a CPF, a CNPJ, or a telephone number with its country code, by its characters
 abbrev pub is_key_number : List ℕ → Bool

@@ -20,9 +20,9 @@ use Rattle.qrcode_contents.specs.declared.fields.errors.Field.TheVariants.{Messa
 use Rattle.qrcode_contents.specs.declared.fields.errors.Cause.TheVariants.{TooLong}
 use Rattle.qrcode_contents.specs.fields.Refusals.{Answers, first_refusal, refused_if}
 use Rattle.qrcode_payloads.specs.Kinds.{fields_of}
-use Rattle.qrcode_contents.specs.fields.Entries.{behind, is_empty}
+use Rattle.qrcode_contents.specs.fields.Entries.{after_start, is_empty}
 use Rattle.qrcode_payloads.specs.Given.{refusal_of, text_of, IsRead}
-use Rattle.qrcode_payloads.specs.Values.{network_in, contact_in, card_in, transfer_in, invoice_in, letter_in, place_in, phone_in, key_in, happening_in, upi_in, pix_in, promptpay_in}
+use Rattle.qrcode_payloads.specs.Values.{network_in, contact_in, card_in, transfer_in, invoice_in, letter_in, location_in, phone_in, key_in, happening_in, upi_in, pix_in, promptpay_in}
 use Rattle.qrcode_payloads.specs.declared.kinds.Kind.{Kind}
 use Rattle.qrcode_payloads.specs.declared.kinds.Kind.TheVariants.{Wifi, Mecard, Vcard, Payment, Bill, Mail, Geo, Tel, Sms, Otp, Event, Upi, Pix, Promptpay}
 
@@ -33,7 +33,7 @@ payload_refusal Vcard g = refusal_of card_refusal (card_in g)
 payload_refusal Payment g = refusal_of payment_refusal (transfer_in g)
 payload_refusal Bill g = refusal_of bill_refusal (invoice_in g)
 payload_refusal Mail g = mail_refusal (letter_in g)
-payload_refusal Geo g = refusal_of place_refusal (place_in g)
+payload_refusal Geo g = refusal_of place_refusal (location_in g)
 payload_refusal Tel g = phone_refusal (phone_in g)
 payload_refusal Sms g = phone_refusal (phone_in g)
 payload_refusal Otp g = refusal_of key_refusal (key_in g)
@@ -63,7 +63,7 @@ payload_text Vcard g = text_of card_text (card_in g)
 payload_text Payment g = text_of payment_text (transfer_in g)
 payload_text Bill g = text_of bill_text (invoice_in g)
 payload_text Mail g = mail_text (letter_in g)
-payload_text Geo g = text_of place_text (place_in g)
+payload_text Geo g = text_of place_text (location_in g)
 payload_text Tel g = codes "tel:" ++ phone_in g
 payload_text Sms g = sms_text (phone_in g) (g Message)
 payload_text Otp g = text_of key_text (key_in g)
@@ -74,26 +74,26 @@ payload_text Promptpay g = text_of promptpay_text (promptpay_in g)
 
 -- reading the text gives the number, and the body if it is not empty
 pub record IsReadAsSms (number body text : List ℕ) : Type 0 where
-  pub alone : length body ≡ 0 → behind (codes "sms:") text ≡ Some number
+  pub alone : length body ≡ 0 → after_start (codes "sms:") text ≡ Some number
   pub message : length body ≢ 0 → read_message text ≡ Some (number, body)
 
-abbrev pub IsReadAs : Kind → (Field → List ℕ) → List ℕ → Type 0  -- reading the text gives exactly these fields
-IsReadAs Wifi g text = IsRead read_wifi (network_in g) text
-IsReadAs Mecard g text = IsRead read_mecard (contact_in g) text
-IsReadAs Vcard g text = IsRead read_card (card_in g) text
-IsReadAs Payment g text = IsRead read_payment (transfer_in g) text
-IsReadAs Bill g text = IsRead read_bill (invoice_in g) text
-IsReadAs Mail g text = read_mail text ≡ Some (letter_in g)
-IsReadAs Geo g text = IsRead read_place (place_in g) text
-IsReadAs Tel g text = behind (codes "tel:") text ≡ Some (phone_in g)
-IsReadAs Sms g text = IsReadAsSms (phone_in g) (g Message) text
-IsReadAs Otp g text = IsRead read_key (key_in g) text
-IsReadAs Event g text = IsRead read_event (happening_in g) text
-IsReadAs Upi g text = IsRead read_upi (upi_in g) text
-IsReadAs Pix g text = IsRead read_pix (pix_in g) text
-IsReadAs Promptpay g text = IsRead read_promptpay (promptpay_in g) text
+abbrev pub IsReadAsFields : Kind → (Field → List ℕ) → List ℕ → Type 0  -- reading the text gives exactly these fields
+IsReadAsFields Wifi g text = IsRead read_wifi (network_in g) text
+IsReadAsFields Mecard g text = IsRead read_mecard (contact_in g) text
+IsReadAsFields Vcard g text = IsRead read_card (card_in g) text
+IsReadAsFields Payment g text = IsRead read_payment (transfer_in g) text
+IsReadAsFields Bill g text = IsRead read_bill (invoice_in g) text
+IsReadAsFields Mail g text = read_mail text ≡ Some (letter_in g)
+IsReadAsFields Geo g text = IsRead read_place (location_in g) text
+IsReadAsFields Tel g text = after_start (codes "tel:") text ≡ Some (phone_in g)
+IsReadAsFields Sms g text = IsReadAsSms (phone_in g) (g Message) text
+IsReadAsFields Otp g text = IsRead read_key (key_in g) text
+IsReadAsFields Event g text = IsRead read_event (happening_in g) text
+IsReadAsFields Upi g text = IsRead read_upi (upi_in g) text
+IsReadAsFields Pix g text = IsRead read_pix (pix_in g) text
+IsReadAsFields Promptpay g text = IsRead read_promptpay (promptpay_in g) text
 
 -- the result is the text of the fields, and reading it gives exactly them; or it is the error of `payload_refusal`, or OutOfMemory
 pub record HasText (kind : Kind) (g : Field → List ℕ) (result : Result (String Global) ContentError) : Type 0 where
-  pub reads : Answers (payload_refusal kind g) result (IsReadAs kind g)
+  pub reads : Answers (payload_refusal kind g) result (IsReadAsFields kind g)
   pub value : IfOk result (λ text. string_bytes text ≡ payload_text kind g)

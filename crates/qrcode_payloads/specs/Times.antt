@@ -15,16 +15,16 @@ abbrev pub day_numbered : ℕ → Day  -- the day of a number such as 19970714
 day_numbered n = record { year = n / 10000 % 10000; month = n / 100 % 100; day = n % 100 }
 
 -- the number of a text of this many digits; None for any other text
-abbrev pub number_of : ℕ → List ℕ → Option ℕ
-number_of count text = if length text == count && list_all is_digit text then scaled_value 0 text else None
+abbrev pub exact_value : ℕ → List ℕ → Option ℕ
+exact_value count text = if length text == count && list_all is_digit text then scaled_value 0 text else None
 
 abbrev pub day_said : List ℕ → Option Day  -- the day of eight digits, which need not exist; None for any other text
-day_said text = option_map day_numbered (number_of 8 text)
+day_said text = option_map day_numbered (exact_value 8 text)
 
 -- a time of day as a number: six digits, or four without seconds (1700 gives 170000)
 abbrev pub clock_number : List ℕ → Option ℕ
 clock_number text =
-    if length text == 4 then option_map (λ n. at_most_u64 (n * 100)) (number_of 4 text) else number_of 6 text
+    if length text == 4 then option_map (λ n. at_most_u64 (n * 100)) (exact_value 4 text) else exact_value 6 text
 
 abbrev pub moment_at : Day → ℕ → Moment  -- the moment on a day at the time with this number, e.g. 170000
 moment_at day n = record { day = day; hour = n / 10000 % 100; minute = n / 100 % 100; second = n % 100 }
@@ -83,7 +83,7 @@ local_said day clock = option_and_then (λ d. option_map (moment_at d) (clock_nu
 -- the offset of a zone from UTC in minutes: two digits of hours, and two of minutes
 unfoldable pub zone_minutes : List ℕ → Option ℕ
 zone_minutes text =
-    option_and_then (λ n. if nat_lt (n / 100) 24 && nat_lt (n % 100) 60 then Some (n / 100 * 60 + n % 100) else None) (number_of 4 text)
+    option_and_then (λ n. if nat_lt (n / 100) 24 && nat_lt (n % 100) 60 then Some (n / 100 * 60 + n % 100) else None) (exact_value 4 text)
 
 -- a moment of a zone this many minutes ahead of UTC, or else behind it, in UTC; one that does not exist stays as it is, and is rejected later
 unfoldable pub from_zone : Bool → Option ℕ → Moment → Option Moment

@@ -184,8 +184,8 @@ degrees_in text field = said (degrees_of text) field (degrees_cause text)
 abbrev pub degrees_given : (Field → List ℕ) → Field → Result ℤ ContentError
 degrees_given g field = degrees_in (plain cleaning.Degrees (trim (g field))) field
 
-abbrev pub place_in : (Field → List ℕ) → Result Place ContentError  -- a location
-place_in g = with_value (degrees_given g Latitude) (λ north. with_value (degrees_given g Longitude) (λ east. Ok (record { latitude = north; longitude = east })))
+abbrev pub location_in : (Field → List ℕ) → Result Place ContentError  -- a location
+location_in g = with_value (degrees_given g Latitude) (λ north. with_value (degrees_given g Longitude) (λ east. Ok (record { latitude = north; longitude = east })))
 
 abbrev pub phone_in : (Field → List ℕ) → List ℕ  -- a telephone number
 phone_in g = phone_number (g Phone)

@@ -1,7 +1,7 @@
 //! The kinds of payload, and the fields of each, in order.
 
 ghost use Rattle.std.specs.Prelude.{◌≡◌, position};
-ghost use Rattle.qrcode_payloads.specs.Kinds.{kind_named, fields_of, place_of, is_same};
+ghost use Rattle.qrcode_payloads.specs.Kinds.{kind_named, fields_of, field_index, is_same_field};
 
 use qrcode_contents::fields::errors::Field;
 
@@ -225,21 +225,21 @@ pub fn fields_of(kind: Kind) -> &'static [Field]
 
 #[tactic(auto, unfolding(crate::specs::Kinds::is_same))]
 fn is_same(a: Field, b: Field) -> bool
-    ensures { result ≡ is_same a b }
+    ensures { result ≡ is_same_field a b }
 {
     a == b
 }
 
 // The index of a field, if it is one of these.
 fn found_place(fields: &[Field], field: Field) -> Option<usize>
-    ensures { result ≡ position (λ one. is_same one field) fields.now }
+    ensures { result ≡ position (λ one. is_same_field one field) fields.now }
 {
     fields.iter().position(|one| is_same(*one, field))
 }
 
 /// Returns the index of `field` in `fields`; their number if it is none of them.
 pub fn place_of(fields: &[Field], field: Field) -> usize
-    ensures value { result ≡ place_of fields.now field }
+    ensures value { result ≡ field_index fields.now field }
 {
     found_place(fields, field).unwrap_or(fields.len())
 }

@@ -9,7 +9,7 @@ ghost use Rattle.qrcode_contents.specs.declared.fields.errors.Field.TheVariants.
 ghost use Rattle.qrcode_payloads.specs.Plain.{plain};
 ghost use Rattle.qrcode_payloads.specs.declared.plain.Cleaning.TheVariants as cleaning;
 ghost use Rattle.qrcode_payloads.specs.Values.{creditor_in, debtor_in, contact_said};
-ghost use Rattle.qrcode_payloads.specs.Texts.{is_long, long_refusal, content_refusal, payload_text, sms_text, HasText, IsReadAs, IsReadAsSms};
+ghost use Rattle.qrcode_payloads.specs.Texts.{is_long, long_refusal, content_refusal, payload_text, sms_text, HasText, IsReadAsFields, IsReadAsSms};
 ghost use Rattle.qrcode_payloads.specs.declared.kinds.Kind.TheVariants.{Wifi, Mecard, Vcard, Payment, Bill, Mail, Geo, Tel, Sms, Otp, Event, Upi, Pix, Promptpay};
 
 use crate::amounts::plain_amount;
@@ -364,7 +364,7 @@ fn payload_text<G: FieldSource>(alloc: Global, kind: Kind, given: &G) -> Content
 /// field, and its cause; `OutOfMemory` if memory runs out.
 pub fn text_of<G: FieldSource>(alloc: Global, kind: Kind, given: &G) -> ContentResult<String>
     ensures reads { Answers (content_refusal kind (G.fields given.now)) result
-        (IsReadAs kind (G.fields given.now)) }
+        (IsReadAsFields kind (G.fields given.now)) }
     ensures value { IfOk result
         (λ text. string_bytes text ≡ payload_text kind (G.fields given.now)) }
 {

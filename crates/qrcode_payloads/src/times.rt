@@ -1,7 +1,7 @@
 //! Reads days and times as people write them, also with a time zone.
 
 ghost use Rattle.std.specs.Prelude.{◌≡◌, ◌<◌, ◌+◌, IfOk, IfSome, Some, true, string_bytes};
-ghost use Rattle.qrcode_payloads.specs.Times.{day_numbered, number_of, day_said, clock_number, moment_at, local_said, day_after, day_before, clock_minutes, with_minutes, earlier, later, zone_minutes, minute_count, day_count, from_zone, is_utc, zoned, moment_said, is_local, plain_day, has_colons, plain_clock, plain_time};
+ghost use Rattle.qrcode_payloads.specs.Times.{day_numbered, exact_value, day_said, clock_number, moment_at, local_said, day_after, day_before, clock_minutes, with_minutes, earlier, later, zone_minutes, minute_count, day_count, from_zone, is_utc, zoned, moment_said, is_local, plain_day, has_colons, plain_clock, plain_time};
 ghost use Rattle.qrcode_contents.specs.Times.{is_moment};
 
 use crate::numbers::decimal;
@@ -23,7 +23,7 @@ fn day_numbered(number: u64) -> Day
 
 // Reads a number of `count` digits. Returns `None` for any other text.
 fn number_of(count: usize, text: &str) -> Option<u64>
-    ensures value { result ≡ number_of count text.now }
+    ensures value { result ≡ exact_value count text.now }
 {
     if text.len() != count || !are_digits(text.as_bytes()) {
         return None;

@@ -10,7 +10,7 @@ use Rattle.qrcode_bits.specs.Written.{Piece}
 use Rattle.qrcode_bits.proofs.Packing.{number_bits-cat}
 use Rattle.qrcode.proofs.Readings.{bits_are_read_one_way}
 use Rattle.qrcode_charsets.specs.Charsets.{designator}
-use Rattle.qrcode_charsets.specs.Fronts.{front, modes_of}
+use Rattle.qrcode_charsets.specs.Fronts.{front, charset_modes}
 use Rattle.qrcode_charsets.specs.Shown.{ShowsIn}
 use Rattle.qrcode_charsets.specs.declared.sets.Charset.{Charset}
 use Rattle.qrcode_charsets.proofs.Cuts.{chunks, AreOf}
@@ -67,7 +67,7 @@ front_parts c v bits text s =
           (eci_before v m.number s.rest (chunks s.pieces) segments (omega (arith, m.small)) normal behind))
     ]
 
-segments_in : (c : Charset) (ps : List Piece) → AreOf (modes_of c) ps → AreSegmentsIn c (map part_of ps)
+segments_in : (c : Charset) (ps : List Piece) → AreOf (charset_modes c) ps → AreSegmentsIn c (map part_of ps)
 segments_in c [] h = tt
 segments_in c (p ∷ ps) h = (h.0, segments_in c ps h.1)
 

@@ -7,7 +7,7 @@ use Rattle.qrcode_types.specs.declared.types.Mode.TheVariants.{Numeric, Alphanum
 use Rattle.qrcode_bits.specs.ModeSets.{is_among}
 use Rattle.qrcode_charsets.specs.Charsets.{designator, IsWritten}
 use Rattle.qrcode_charsets.specs.Eci.{IsTextUnder}
-use Rattle.qrcode_charsets.specs.Fronts.{modes_of}
+use Rattle.qrcode_charsets.specs.Fronts.{charset_modes}
 use Rattle.qrcode_charsets.specs.declared.sets.Charset.{Charset}
 use Rattle.qrcode_charsets.specs.declared.sets.Charset.TheVariants.{Unmarked, Utf8, OneByte, ShiftJis}
 use Rattle.qrcode_charsets.proofs.Designated.{under_one_way, written_under}
@@ -24,10 +24,10 @@ front_of (Some n) = Front (Eci n) ∷ []
 abbrev pub AreSegmentsIn : Charset → List Part → Type 0  -- segments only, in modes that write text in the set
 AreSegmentsIn c [] = Unit
 AreSegmentsIn c (Front h ∷ parts) = ⊥
-AreSegmentsIn c (Bytes m k ∷ parts) = (is_among (modes_of c) m ≡ true) × AreSegmentsIn c parts
+AreSegmentsIn c (Bytes m k ∷ parts) = (is_among (charset_modes c) m ≡ true) × AreSegmentsIn c parts
 
 -- a mode that writes text in a set is readable under its designator
-readable : (c : Charset) (m : Mode) → is_among (modes_of c) m ≡ true → is_readable m (designator c) ≡ true
+readable : (c : Charset) (m : Mode) → is_among (charset_modes c) m ≡ true → is_readable m (designator c) ≡ true
 readable c Numeric h = refl
 readable c Alphanumeric h = refl
 readable c Byte h = refl

@@ -6,7 +6,7 @@ ghost use Rattle.qrcode_types.specs.declared.types.QrError.TheVariants.{OutOfMem
 ghost use Rattle.qrcode_bits.specs.Cuts.{IsCutIn, NeedsCut};
 ghost use Rattle.qrcode_bits.specs.Refusals.{data_limit};
 ghost use Rattle.qrcode_charsets.specs.Charsets.{IsWritten};
-ghost use Rattle.qrcode_charsets.specs.Fronts.{front, has_front, modes_of};
+ghost use Rattle.qrcode_charsets.specs.Fronts.{front, has_front, charset_modes};
 ghost use Rattle.qrcode_charsets.specs.Laid.{cut_bytes, IsLaid, IsBestCut, IsCutOf, IsMeasured, NoneLaid, IsLeastLaid, less_of};
 ghost use Rattle.qrcode_charsets.specs.declared.sets.Charset.TheVariants.{ShiftJis};
 
@@ -84,7 +84,7 @@ fn cut(alloc: Global, set: Charset, bytes: Vec<u8>, version: Version) -> QrResul
     requires length_at_most { length bytes.items ≤ data_limit }
     ensures measured { IfOk result (IsCutOf set version bytes.items) }
     ensures refusals { NeedsCut
-        (IsCutIn (modes_of set) version (cut_bytes set bytes.items)) result }
+        (IsCutIn (charset_modes set) version (cut_bytes set bytes.items)) result }
 {
     let segments = segments_of(alloc, set, &bytes, version)?;
     let used = front_length(set) + total_encoded_len(&segments, version);
@@ -111,7 +111,7 @@ fn segments_of(
     ensures best { IfOk result (λ segments.
         IsBestCut set version bytes.now segments.items) }
     ensures refusals { NeedsCut
-        (IsCutIn (modes_of set) version (cut_bytes set bytes.now)) result }
+        (IsCutIn (charset_modes set) version (cut_bytes set bytes.now)) result }
 {
     match set {
         Charset::ShiftJis => pair_segments(alloc, bytes, version),
@@ -128,7 +128,7 @@ fn pair_segments(alloc: Global, bytes: &[u8], version: Version) -> QrResult<Vec<
     ensures best { IfOk result (λ segments.
         IsBestCut ShiftJis version bytes.now segments.items) }
     ensures refusals { NeedsCut
-        (IsCutIn (modes_of ShiftJis) version (cut_bytes ShiftJis bytes.now)) result }
+        (IsCutIn (charset_modes ShiftJis) version (cut_bytes ShiftJis bytes.now)) result }
 {
     let stand_in = shift_jis::stand_in(alloc, bytes)?;
     least_segments_in(alloc, &stand_in, version, Modes::ALL)

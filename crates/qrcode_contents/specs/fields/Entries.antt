@@ -24,8 +24,8 @@ is_filled bytes = not (is_empty bytes)
 abbrev pub read_or_none : {A : Type 0} → (List ℕ → Option A) → List ℕ → Option (Option A)
 read_or_none read text = if is_filled text then option_map (λ value. Some value) (read text) else Some None
 
-abbrev pub filled : List Entry → List Entry  -- the entries with a part that is not empty
-filled entries = filter (λ entry. list_any is_filled entry.1) entries
+abbrev pub filled_entries : List Entry → List Entry  -- the entries with a part that is not empty
+filled_entries entries = filter (λ entry. list_any is_filled entry.1) entries
 
 abbrev pub parts_text : Escapes → ℕ → List (List ℕ) → List ℕ  -- parts, escaped, with a separator between them
 parts_text escapes separator [] = []
@@ -52,21 +52,21 @@ read_until_empty ((b ∷ piece) ∷ later) =
     option_map (λ entries. read_entry Marks 44 (b ∷ piece) ∷ entries) (read_until_empty later)
 
 -- the bytes after this start; None if the text starts otherwise
-abbrev pub behind : List ℕ → List ℕ → Option (List ℕ)
-behind [] bytes = Some bytes
-behind (a ∷ start) [] = None
-behind (a ∷ start) (b ∷ bytes) = if a == b then behind start bytes else None
+abbrev pub after_start : List ℕ → List ℕ → Option (List ℕ)
+after_start [] bytes = Some bytes
+after_start (a ∷ start) [] = None
+after_start (a ∷ start) (b ∷ bytes) = if a == b then after_start start bytes else None
 
 -- the entries of a text with this start: a semicolon ends each, and an empty one ends the list
 unfoldable pub read_entries : List ℕ → List ℕ → Option (List Entry)
-read_entries start text = option_and_then (λ bytes. read_until_empty (pieces 59 bytes)) (behind start text)
+read_entries start text = option_and_then (λ bytes. read_until_empty (pieces 59 bytes)) (after_start start text)
 
 -- the i-th part of the first entry with this key; empty if there is none
-abbrev pub part_of : List ℕ → ℕ → List Entry → List ℕ
-part_of key i [] = []
-part_of key i (entry ∷ entries) =
-    if bytes_eq key entry.0 then slice_index_or entry.1 i [] else part_of key i entries
+abbrev pub part_with_key : List ℕ → ℕ → List Entry → List ℕ
+part_with_key key i [] = []
+part_with_key key i (entry ∷ entries) =
+    if bytes_eq key entry.0 then slice_index_or entry.1 i [] else part_with_key key i entries
 
 -- the first part of the first entry with this key; empty if there is none
 abbrev pub value_of : List ℕ → List Entry → List ℕ
-value_of key entries = part_of key 0 entries
+value_of key entries = part_with_key key 0 entries

@@ -37,11 +37,11 @@ characters_for Alphanumeric b = if b == 29 then 37 ∷ [] else (if b == 37 then 
 characters_for Byte b = b ∷ []
 characters_for Kanji b = b ∷ []
 
-abbrev pub characters : Mode → List ℕ → List ℕ  -- the characters that a segment writes for bytes
-characters m bytes = flat_map (characters_for m) bytes
+abbrev pub written_characters : Mode → List ℕ → List ℕ  -- the characters that a segment writes for bytes
+written_characters m bytes = flat_map (characters_for m) bytes
 
 abbrev pub marked_pieces : List ℕ → List Segment → List Piece  -- the pieces that segments write
-marked_pieces bytes segments = map (λ s. record { mode = s.mode; chunk = characters s.mode (slice_range bytes s.begin s.end) }) segments
+marked_pieces bytes segments = map (λ s. record { mode = s.mode; chunk = written_characters s.mode (slice_range bytes s.begin s.end) }) segments
 
 -- the mode can write the characters for the byte; Kanji is not used
 abbrev pub has_characters : Mode → ℕ → Bool

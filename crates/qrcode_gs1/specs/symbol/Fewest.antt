@@ -35,8 +35,8 @@ pub record AreAllFew (r : Costs) : Type 0 where  -- all costs are so few
   pub odd_letter : AreFew r.odd_letter
   pub bytes : AreFew r.bytes
 
-abbrev pub behind : ℕ → Way → Way  -- a way with a byte of this many bits before it
-behind bits w = record { bits = w.bits + bits; taken = w.taken + 1 }
+abbrev pub after_byte : ℕ → Way → Way  -- a way with a byte of this many bits before it
+after_byte bits w = record { bits = w.bits + bits; taken = w.taken + 1 }
 
 abbrev pub goes_or : Way → Bool → Way → Way  -- the better of two ways, if the second is possible
 goes_or w can other = if can && nat_lt other.bits w.bits then other else w
@@ -51,28 +51,28 @@ better s can other = if can && nat_lt other.bits s.bits then other else s
 -- (odd_on)
 abbrev pub even_on : ℕ → ℕ → Costs → Way
 even_on b follows next =
-    if must_end Alphanumeric b follows then behind 6 (ends next.start) else (if b == 37 then behind 11 next.letters else behind 6 next.odd_letter)
+    if must_end Alphanumeric b follows then after_byte 6 (ends next.start) else (if b == 37 then after_byte 11 next.letters else after_byte 6 next.odd_letter)
 
 abbrev pub odd_on : ℕ → ℕ → Costs → Way
 odd_on b follows next =
-    if must_end Alphanumeric b follows then behind 5 (ends next.start) else (if b == 37 then behind 11 next.odd_letter else behind 5 next.letters)
+    if must_end Alphanumeric b follows then after_byte 5 (ends next.start) else (if b == 37 then after_byte 11 next.odd_letter else after_byte 5 next.letters)
 
 abbrev pub best_start : Headers → ℕ → ℕ → Costs → Start  -- the best segment to begin with
 best_start h b follows next =
-    better (better (with_header Byte h.byte (behind 8 next.bytes))
+    better (better (with_header Byte h.byte (after_byte 8 next.bytes))
     (has_characters Alphanumeric b) (with_header Alphanumeric h.alphanumeric (even_on b follows next)))
-    (has_characters Numeric b) (with_header Numeric h.numeric (behind 4 next.one_digit))
+    (has_characters Numeric b) (with_header Numeric h.numeric (after_byte 4 next.one_digit))
 
 -- the costs one byte earlier: by that byte, the one after it, and the best start there
 abbrev pub costs_before : ℕ → ℕ → Start → Costs → Costs
 costs_before b follows s next = record {
   start = s;
-  digits = goes_or (ends s) (has_characters Numeric b) (behind 4 next.one_digit);
-  one_digit = goes_or (ends s) (has_characters Numeric b) (behind 3 next.two_digits);
-  two_digits = goes_or (ends s) (has_characters Numeric b) (behind 3 next.digits);
+  digits = goes_or (ends s) (has_characters Numeric b) (after_byte 4 next.one_digit);
+  one_digit = goes_or (ends s) (has_characters Numeric b) (after_byte 3 next.two_digits);
+  two_digits = goes_or (ends s) (has_characters Numeric b) (after_byte 3 next.digits);
   letters = goes_or (ends s) (has_characters Alphanumeric b) (even_on b follows next);
   odd_letter = goes_or (ends s) (has_characters Alphanumeric b) (odd_on b follows next);
-  bytes = goes_or (ends s) true (behind 8 next.bytes);
+  bytes = goes_or (ends s) true (after_byte 8 next.bytes);
 }
 
 abbrev pub step : Headers → ℕ → ℕ → Costs → Costs

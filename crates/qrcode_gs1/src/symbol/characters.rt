@@ -3,7 +3,7 @@
 ghost use Rattle.std.specs.Prelude.{◌≡◌, ◌++◌, length, IfOk, OnOk, IsOkUnless};
 ghost use Rattle.qrcode_types.specs.declared.types.QrError.TheVariants.{OutOfMemory};
 ghost use Rattle.qrcode_bits.specs.Segments.{Tile, AreInside};
-ghost use Rattle.qrcode_gs1.specs.symbol.Characters.{characters_for, characters};
+ghost use Rattle.qrcode_gs1.specs.symbol.Characters.{characters_for, written_characters};
 ghost use Rattle.qrcode_gs1.specs.symbol.Cuts.{AreCharacters};
 
 use qrcode::types::{Mode, QrResult};
@@ -47,7 +47,7 @@ impl Characters {
 // Appends the characters that a segment in `mode` writes for `bytes`.
 fn push_characters(written: &mut Vec<u8>, mode: Mode, bytes: &[u8]) -> QrResult<()>
     ensures appends { OnOk result
-        (written.new.items ≡ written.old.items ++ characters mode bytes.now) }
+        (written.new.items ≡ written.old.items ++ written_characters mode bytes.now) }
     ensures memory { IsOkUnless result OutOfMemory }
 {
     for byte in bytes {

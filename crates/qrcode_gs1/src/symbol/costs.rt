@@ -4,7 +4,7 @@ ghost use Rattle.std.specs.Prelude.{◌≡◌, ◌+◌, ◌≤◌, IsTrue};
 ghost use Rattle.qrcode_types.specs.Versions.{is_valid, is_micro};
 ghost use Rattle.qrcode_types.specs.declared.types.Mode.TheVariants.{Alphanumeric};
 ghost use Rattle.qrcode_gs1.specs.symbol.Characters.{must_end};
-ghost use Rattle.qrcode_gs1.specs.symbol.Fewest.{headers_of, behind, AreSmall, AreFew, AreAllFew, with_header, better, goes_or, at_end, ends, even_on, odd_on, best_start, step};
+ghost use Rattle.qrcode_gs1.specs.symbol.Fewest.{headers_of, after_byte, AreSmall, AreFew, AreAllFew, with_header, better, goes_or, at_end, ends, even_on, odd_on, best_start, step};
 
 use qrcode::types::{Mode, Version};
 use qrcode_types::characters::{is_alphanumeric, is_digit};
@@ -44,7 +44,7 @@ impl Way {
     fn behind(self, bits: usize) -> Way
         requires rest { AreFew self }
         requires at_most { bits ≤ 11 }
-        ensures { result ≡ behind bits self }
+        ensures { result ≡ after_byte bits self }
     {
         Way {
             bits: self.bits + bits,

@@ -1,5 +1,5 @@
 use Rattle.std.proofs.Common.{◌≡◌, ◌≤◌, take}
-use Rattle.qrcode_gs1.specs.Elements.{number_of}
+use Rattle.qrcode_gs1.specs.Elements.{decimal_value}
 use Rattle.qrcode_gs1.proofs.table.number_of.Given as goal
 
 abbrev pub invariant-loop-digit : goal.invariant-loop-digit
@@ -9,5 +9,5 @@ invariant-loop-digit l = record {
   two : l.digit-index ≤ 2 → l.number ≤ 3000;
   three : l.digit-index ≤ 3 → l.number ≤ 40000;
   four : l.number ≤ 500000;
-  value : l.number ≡ number_of (take l.digit-index l.digits);
+  value : l.number ≡ decimal_value (take l.digit-index l.digits);
 }

@@ -3,7 +3,7 @@ use Rattle.qrcode_bits.specs.Segments.{AreInside, total_cost}
 use Rattle.qrcode_bits.proofs.CutPieces.{cut_inside}
 use Rattle.qrcode_bits.proofs.LeastCuts.{cost_most}
 use Rattle.qrcode_bits.proofs.Several.{small_inside}
-use Rattle.qrcode_charsets.specs.Fronts.{modes_of}
+use Rattle.qrcode_charsets.specs.Fronts.{charset_modes}
 use Rattle.qrcode_charsets.specs.Laid.{IsBestCut}
 use Rattle.qrcode_charsets.proofs.shortest.measuring.cut.Goals as goal
 use Rattle.qrcode_charsets.proofs.shortest.measuring.cut.Goals.{In_ok-segments}
@@ -12,7 +12,7 @@ best : (c : In_ok-segments) → IsBestCut c.args.set c.args.version c.args.bytes
 best c = subst (λ (xs : List ℕ). IsBestCut c.args.set c.args.version xs c.in_ok-segments.segments.items) c.deref.ensures.value c.in_ok-segments.ensures.best
 
 short : (c : In_ok-segments) → total_cost c.args.version c.in_ok-segments.segments.items ≤ 32 * length c.args.bytes.items
-short c = omega (arith, cost_most (modes_of c.args.set) c.args.version c.args.bytes.items 0 c.in_ok-segments.segments.items (length c.args.bytes.items) c.requires.valid (best c).cut.tiles)
+short c = omega (arith, cost_most (charset_modes c.args.set) c.args.version c.args.bytes.items 0 c.in_ok-segments.segments.items (length c.args.bytes.items) c.requires.valid (best c).cut.tiles)
 
 pub total_encoded_len-requires-clause-ranges : goal.total_encoded_len-requires-clause-ranges
 total_encoded_len-requires-clause-ranges c =

@@ -9,7 +9,7 @@ use Rattle.qrcode_contents.specs.declared.fields.errors.Field.TheVariants.{Amoun
 use Rattle.qrcode_contents.specs.declared.fields.errors.Cause.TheVariants.{Character, Empty, Range, TooLong}
 use Rattle.qrcode_contents.specs.Bill.{is_out_of_range}
 use Rattle.qrcode_contents.specs.Merchant.{PixFields, pix_of, is_reference_byte, account_checks, account_refusal, receiver_checks, receiver_refusal, pix_refusal, key_objects, reference_text, pix_objects, pix_text, read_reference, pix_with, pix_in, read_pix}
-use Rattle.qrcode_contents.specs.fields.Entries.{Entry, is_empty, is_filled, filled, value_of}
+use Rattle.qrcode_contents.specs.fields.Entries.{Entry, is_empty, is_filled, filled_entries, value_of}
 use Rattle.qrcode_contents.specs.fields.EntryTests.{are_distinct}
 use Rattle.qrcode_contents.specs.fields.Links.{Parameter}
 use Rattle.qrcode_contents.specs.fields.Objects.{objects_text, read_objects}
@@ -126,10 +126,10 @@ objects_are p said =
     (refl, omega arith, (refl, account_short p said.fits, (refl, omega arith, (refl, omega arith, (refl, cents_short p.cents said.cents, receiver)))))
 
 -- entries whose parts are all empty may be left out
-pix_in-filled : (es : List Entry) → are_distinct es ≡ true → pix_in (filled es) ≡ option_and_then (λ account. option_and_then (pix_with (filled es) account) (read_objects (value_of (codes "62") es))) (read_objects (value_of (codes "26") es))
+pix_in-filled : (es : List Entry) → are_distinct es ≡ true → pix_in (filled_entries es) ≡ option_and_then (λ account. option_and_then (pix_with (filled_entries es) account) (read_objects (value_of (codes "62") es))) (read_objects (value_of (codes "26") es))
 pix_in-filled es are = rw (part_of-filled (codes "26") 0 es are, part_of-filled (codes "62") 0 es are) refl
 
-objects-filled : (objects account more : List Entry) → are_distinct objects ≡ true → pix_with (filled objects) account more ≡ pix_with objects account more
+objects-filled : (objects account more : List Entry) → are_distinct objects ≡ true → pix_with (filled_entries objects) account more ≡ pix_with objects account more
 objects-filled objects account more are =
     rw (
       part_of-filled (codes "00") 0 objects are,
@@ -140,11 +140,11 @@ objects-filled objects account more are =
       part_of-filled (codes "54") 0 objects are,
     ) refl
 
-account-filled : (objects account more : List Entry) → are_distinct account ≡ true → pix_with objects (filled account) more ≡ pix_with objects account more
+account-filled : (objects account more : List Entry) → are_distinct account ≡ true → pix_with objects (filled_entries account) more ≡ pix_with objects account more
 account-filled objects account more are =
     rw (part_of-filled (codes "00") 0 account are, part_of-filled (codes "01") 0 account are, part_of-filled (codes "02") 0 account are) refl
 
-more-filled : (objects account more : List Entry) → are_distinct more ≡ true → pix_with objects account (filled more) ≡ pix_with objects account more
+more-filled : (objects account more : List Entry) → are_distinct more ≡ true → pix_with objects account (filled_entries more) ≡ pix_with objects account more
 more-filled objects account more are = rw (part_of-filled (codes "05") 0 more are) refl
 
 same_fields : (p : PixFields) (reference : List ℕ) → reference ≡ p.reference → (let x : PixFields = record { key = p.key; name = p.name; city = p.city; cents = p.cents; reference = reference; description = p.description } in x) ≡ p
@@ -159,9 +159,9 @@ pix_read p is =
     let more = entries_of (more_objects p) in
     ap (option_and_then pix_in) (checked_read (pix_objects p) (objects_are p said))
     ∙ pix_in-filled objects refl
-    ∙ ap₂ (λ a m. option_and_then (λ x. option_and_then (pix_with (filled objects) x) m) a) (objects_read (key_objects p) (account_are p said.fits)) (objects_read (more_objects p) (more_are p said.reference_short))
-    ∙ objects-filled objects (filled account) (filled more) refl
-    ∙ account-filled objects account (filled more) refl
+    ∙ ap₂ (λ a m. option_and_then (λ x. option_and_then (pix_with (filled_entries objects) x) m) a) (objects_read (key_objects p) (account_are p said.fits)) (objects_read (more_objects p) (more_are p said.reference_short))
+    ∙ objects-filled objects (filled_entries account) (filled_entries more) refl
+    ∙ account-filled objects account (filled_entries more) refl
     ∙ more-filled objects account more refl
     ∙ rw (cents_read p.cents said.cents) (ap Some (same_fields p _ (reference_read p.reference said.reference)))
 

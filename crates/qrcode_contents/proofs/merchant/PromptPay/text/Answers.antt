@@ -6,7 +6,7 @@ use Rattle.qrcode_contents.specs.declared.fields.errors.Field.TheVariants.{Amoun
 use Rattle.qrcode_contents.specs.declared.fields.errors.Cause.TheVariants.{Character, Range, TooShort}
 use Rattle.qrcode_contents.specs.Bill.{is_out_of_range}
 use Rattle.qrcode_contents.specs.Merchant.{PromptPayFields, promptpay_of, is_phone, is_identity, is_wallet, is_zero, promptpay_checks, promptpay_refusal, payee_objects, initiation, promptpay_objects, promptpay_text, read_payee, promptpay_with, promptpay_in, read_promptpay}
-use Rattle.qrcode_contents.specs.fields.Entries.{Entry, is_filled, filled, value_of}
+use Rattle.qrcode_contents.specs.fields.Entries.{Entry, is_filled, filled_entries, value_of}
 use Rattle.qrcode_contents.specs.fields.EntryTests.{are_distinct}
 use Rattle.qrcode_contents.specs.fields.Links.{Parameter}
 use Rattle.qrcode_contents.specs.fields.Objects.{objects_text, read_objects}
@@ -26,8 +26,8 @@ account_with tag value = (codes "00", codes "A000000677010111") ∷ (tag, value)
 record Says (payee : List ℕ) (os : List Parameter) : Type 0 where
   are : AreObjects os
   short : length (objects_text os) < 100
-  named : value_of (codes "00") (filled (entries_of os)) ≡ codes "A000000677010111"
-  told : read_payee (filled (entries_of os)) ≡ Some payee
+  named : value_of (codes "00") (filled_entries (entries_of os)) ≡ codes "A000000677010111"
+  told : read_payee (filled_entries (entries_of os)) ≡ Some payee
 
 account_short : (tag value : List ℕ) → length tag ≡ 2 → length value < 20 → is_filled value ≡ true → length (objects_text (account_with tag value)) < 100
 account_short tag value two few some =
@@ -44,7 +44,7 @@ phone_length : (payee : List ℕ) → length payee ≡ 10 → (get_or payee 0 0 
 phone_length [] ten first = absurd (omega (arith, ten))
 phone_length (b ∷ rest) ten first = let same : b ≡ 48 = grind (arith, nat_tests) in rw same (omega (arith, ten))
 
-read-filled : (es : List Entry) → are_distinct es ≡ true → read_payee (filled es) ≡ read_payee es
+read-filled : (es : List Entry) → are_distinct es ≡ true → read_payee (filled_entries es) ≡ read_payee es
 read-filled es are = rw (part_of-filled (codes "01") 0 es are, part_of-filled (codes "02") 0 es are, part_of-filled (codes "03") 0 es are) refl
 
 says_with : (payee tag value : List ℕ) → length tag ≡ 2 → are_distinct (entries_of (account_with tag value)) ≡ true → length value < 20 → is_filled value ≡ true
@@ -108,10 +108,10 @@ objects_are p said =
     (refl, omega arith, (refl, initiation_short p.cents, (refl, said.account.short, (refl, omega arith, (refl, omega arith, (refl, cents_short p.cents said.cents, tt))))))
 
 -- entries whose parts are all empty may be left out
-promptpay_in-filled : (es : List Entry) → are_distinct es ≡ true → promptpay_in (filled es) ≡ option_and_then (promptpay_with (filled es)) (read_objects (value_of (codes "29") es))
+promptpay_in-filled : (es : List Entry) → are_distinct es ≡ true → promptpay_in (filled_entries es) ≡ option_and_then (promptpay_with (filled_entries es)) (read_objects (value_of (codes "29") es))
 promptpay_in-filled es are = rw (part_of-filled (codes "29") 0 es are) refl
 
-claim-filled : (es account : List Entry) → are_distinct es ≡ true → promptpay_with (filled es) account ≡ promptpay_with es account
+claim-filled : (es account : List Entry) → are_distinct es ≡ true → promptpay_with (filled_entries es) account ≡ promptpay_with es account
 claim-filled es account are =
     rw (part_of-filled (codes "00") 0 es are, part_of-filled (codes "53") 0 es are, part_of-filled (codes "58") 0 es are, part_of-filled (codes "54") 0 es are) refl
 
@@ -125,9 +125,9 @@ promptpay_read p is =
     let objects = entries_of (with_check (promptpay_objects p)) in
     ap (option_and_then promptpay_in) (checked_read (promptpay_objects p) (objects_are p said))
     ∙ promptpay_in-filled objects refl
-    ∙ ap (option_and_then (promptpay_with (filled objects))) (objects_read (payee_objects p.payee) said.account.are)
-    ∙ claim-filled objects (filled (entries_of (payee_objects p.payee))) refl
-    ∙ fields_said p (filled (entries_of (payee_objects p.payee))) said.account.named said.account.told said.cents
+    ∙ ap (option_and_then (promptpay_with (filled_entries objects))) (objects_read (payee_objects p.payee) said.account.are)
+    ∙ claim-filled objects (filled_entries (entries_of (payee_objects p.payee))) refl
+    ∙ fields_said p (filled_entries (entries_of (payee_objects p.payee))) said.account.named said.account.told said.cents
 
 pub returns-clause-reads : goal.returns-clause-reads
 returns-clause-reads c =

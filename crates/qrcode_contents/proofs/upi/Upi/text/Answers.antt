@@ -10,7 +10,7 @@ use Rattle.qrcode_contents.specs.Bill.{amount_line, is_out_of_range, read_cents}
 use Rattle.qrcode_contents.specs.Upi.{UpiFields, upi_of, upi_with, is_address_byte, is_category, upi_checks, upi_refusal, upi_parameters, upi_text, read_upi}
 use Rattle.qrcode_contents.specs.fields.Amounts.{amount_text}
 use Rattle.qrcode_contents.specs.fields.Characters.{is_control, is_digit}
-use Rattle.qrcode_contents.specs.fields.Entries.{is_filled, filled, single, value_of}
+use Rattle.qrcode_contents.specs.fields.Entries.{is_filled, filled_entries, single, value_of}
 use Rattle.qrcode_contents.specs.fields.EntryTests.{are_distinct}
 use Rattle.qrcode_contents.specs.fields.Links.{read_parameter, value_in}
 use Rattle.qrcode_contents.specs.fields.Percents.{decoded}
@@ -88,10 +88,10 @@ unfolding read_parameter
 first_read payee are = ap (single (codes "pa")) (address_read payee are)
 
 -- the entries of a link
-link_entries : (r : UpiFields) → AreSaid r → read_pieces (codes "pa=" ++ (r.payee ++ and_text (upi_parameters r))) ≡ single (codes "pa") r.payee ∷ filled (entries_of (upi_parameters r))
+link_entries : (r : UpiFields) → AreSaid r → read_pieces (codes "pa=" ++ (r.payee ++ and_text (upi_parameters r))) ≡ single (codes "pa") r.payee ∷ filled_entries (entries_of (upi_parameters r))
 link_entries r said =
     later_read (codes "pa=" ++ r.payee) (upi_parameters r) (all_without is_address_byte (λ b. b == 38) (λ b is. (is_itself b is).no_and) r.payee said.address) said.parameters
-    ∙ ap (λ entry. entry ∷ filled (entries_of (upi_parameters r))) (first_read r.payee said.address)
+    ∙ ap (λ entry. entry ∷ filled_entries (entries_of (upi_parameters r))) (first_read r.payee said.address)
 
 value_of_link : (r : UpiFields) → AreSaid r → (key : List ℕ) → bytes_eq key (codes "pa") ≡ false → are_distinct (entries_of (upi_parameters r)) ≡ true → value_in key (link_of r) ≡ value_of key (entries_of (upi_parameters r))
 value_of_link r said key other distinct =

@@ -5,7 +5,7 @@ use Rattle.std.proofs.lemmas.List.{take_all, take_more}
 use Rattle.qrcode_types.specs.declared.types.Mode.TheVariants.{Numeric}
 use Rattle.qrcode_bits.specs.declared.optimize.Segment.{Segment}
 use Rattle.qrcode_bits.proofs.SegmentRanges.{length-range}
-use Rattle.qrcode_gs1.specs.symbol.Characters.{characters}
+use Rattle.qrcode_gs1.specs.symbol.Characters.{written_characters}
 use Rattle.qrcode_gs1.specs.symbol.Cuts.{AreCharacters}
 use Rattle.qrcode_gs1.proofs.Pieces.{characters_more, characters_some, tile_at}
 use Rattle.qrcode_gs1.proofs.symbol.characters.Characters.of.Goals as goal
@@ -35,7 +35,7 @@ loop-segment-preserved c =
     let s : Segment = get_or ss i none in
     let w = c.loop-segment.written.items in
     let ranges = c.loop-segment.ranges.items in
-    let chunk = characters s.mode (slice_range bytes s.begin s.end) in
+    let chunk = written_characters s.mode (slice_range bytes s.begin s.end) in
     let range : Segment = record { mode = s.mode; begin = length w; end = length w + length chunk } in
     let at = inside (goal.at.loop-segment-preserved c).After-len-begin in
     let some : 0 < length chunk = omega (arith, characters_some s.mode (slice_range bytes s.begin s.end), length-range bytes s.begin s.end (omega (arith, at.0)) at.1, at.0) in
