@@ -20,7 +20,7 @@ use Rattle.goqlanis_buffers.proofs.Tinted.{no_paints}
 use Rattle.std.proofs.Math.Nat.{zero-mul}
 use Rattle.goqlanis_buffers.specs.declared.pictures.Asked.{Asked}
 use Rattle.qrcode_render.specs.Bitmap.{row_of}
-use Rattle.qrcode_sheets.specs.Files.{inked, packed, pbm_file, pbm_head, pgm_file, ppm_file}
+use Rattle.qrcode_sheets.specs.Files.{inked, black_bytes, pbm_file, pbm_head, pgm_file, ppm_file}
 use Rattle.qrcode_render.specs.Layout.{Layout, layout, pixels_across, pixels_down}
 use Rattle.qrcode_render.specs.Picture.{picture}
 use Rattle.qrcode_sheets.specs.Printers.{bytes_across, escpos_file, escpos_head, hex_pair, packed_file, tspl_file_at, tspl_head, tspl_head_at, tspl_row, tspl_tail, turned, xbm_file, xbm_head, xbm_row, xbm_tail}
@@ -58,8 +58,8 @@ length_of_row at s y inside =
     length-take-le (y * w + w - y * w) (drop (y * w) marks) (omega (arith, less, length-drop (y * w) marks)) ∙ omega arith
 
 -- the length of a row of pixels packed into bytes, eight per byte
-length_of_packed : (blacks : List Bool) → length (packed blacks) ≡ (length blacks + 7) / 8
-unfolding packed
+length_of_packed : (blacks : List Bool) → length (black_bytes blacks) ≡ (length blacks + 7) / 8
+unfolding black_bytes
 length_of_packed blacks = length-map-range_with_len _ 0 ((length blacks + 7) / 8)
 
 -- the length of a head and what follows it
@@ -73,10 +73,10 @@ length_of_file : (before : ℕ → ℕ → List ℕ) (row : List ℕ → List �
 unfolding packed_file
 length_of_file before row behind marked other at s size each =
     let b = picture at s in
-    let text = λ (y : ℕ). row (packed (inked marked other (row_of b y))) in
+    let text = λ (y : ℕ). row (black_bytes (inked marked other (row_of b y))) in
     length-append (before b.across b.down ++ flat_map text (range_with_len 0 b.down)) behind
     ∙ ap (λ n. n + length behind) (length_behind (before b.across b.down) _ (length_of_pieces text size b.down 0 (λ y low high.
-    each (packed (inked marked other (row_of b y)))
+    each (black_bytes (inked marked other (row_of b y)))
     (length_of_packed (inked marked other (row_of b y)) ∙ ap (λ n. (n + 7) / 8) (length-map (row_of b y) _ ∙ length_of_row at s y (omega (arith, high)))))))
 
 -- bytes in XBM take five characters each

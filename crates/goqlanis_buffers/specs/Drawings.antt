@@ -1,7 +1,7 @@
 -- What the calls for C draw.
 use Rattle.std.specs.Prelude.{◌≡◌, ℕ, ◌==◌, nat_le, ◌&&◌, Bool, true, false, List, IsTrue, Option, None, Some, map, if◌then◌else◌}
 use Rattle.qrcode_render.specs.Layout.{layout}
-use Rattle.qrcode_sheets.specs.Paths.{plain}
+use Rattle.qrcode_sheets.specs.Paths.{plain_frame}
 use Rattle.goqlanis_buffers.specs.Shades.{colors_of}
 use Rattle.goqlanis_request.specs.Drawings.{sized}
 use Rattle.qrcode_sheets.specs.Drawn.{IsSheetFile}
@@ -39,7 +39,7 @@ sheet f modules width d inks = record {
   ends_lines = false;
   dots = dots (row f).is_exact d.dpi;
   place = (0, 0);
-  frame = sized (dots (row f).is_exact d.dpi) plain;
+  frame = sized (dots (row f).is_exact d.dpi) plain_frame;
   version = version_for width;
   parts = inks;
   over = Nothing;

@@ -4,13 +4,13 @@ use Rattle.qrcode_sheets.specs.declared.formats.Format.{Format}
 use Rattle.qrcode_sheets.specs.declared.formats.Format.TheVariants.{Png}
 use Rattle.qrcode_damage.specs.declared.areas.Rectangle.{Rectangle}
 use Rattle.qrcode_png.specs.Image.{Image, image_of, rgba}
-use Rattle.qrcode_png.specs.Refusals.{IsRefused}
+use Rattle.qrcode_png.specs.Refusals.{IsFileRefused}
 use Rattle.qrcode_png.specs.declared.reading.PngError.{PngError}
 use Rattle.qrcode_png.specs.declared.reading.PngError.TheVariants as png
 use Rattle.qrcode_sheets.specs.Places.{fitted}
 use Rattle.qrcode_sheets.specs.Sheets.{Pixels}
 use Rattle.qrcode_sheets.specs.declared.pasting.Inset.{Inset}
-use Rattle.qrcode_sheets.specs.declared.places.Place.{Place}
+use Rattle.qrcode_sheets.specs.declared.places.Region.{Region}
 use Rattle.goqlanis_request.specs.Overlays.{window_of}
 use Rattle.goqlanis_request.specs.Places.{place_at, HasRoom}
 use Rattle.goqlanis_buffers.specs.Asking.{side_of, IsCauseFor, IsDrawable}
@@ -27,7 +27,7 @@ pub record MayHaveLogo (a : Asked) (area : Rectangle) : Type 0 where
   pub side : side_of a ≤ 8192
   pub inside : HasRoom a.width area 0
 
-abbrev pub logo_place : Asked → Rectangle → Place  -- where the area is, in pixels
+abbrev pub logo_place : Asked → Rectangle → Region  -- where the area is, in pixels
 logo_place a area = place_at a.drawing.now.zone a.drawing.now.scale area 0
 
 -- all pixels of an image are those of an inset
@@ -44,7 +44,7 @@ pub record IsSmaller (i : Image) (n : Inset) : Type 0 where
   pub down : n.down ≡ n.place.height
 
 -- an inset shows an image in the middle of a place, in its proportions: pixel by pixel, or shrunk if it is larger
-pub record IsLogoIn (p : Place) (i : Image) (n : Inset) : Type 0 where
+pub record IsLogoIn (p : Region) (i : Image) (n : Inset) : Type 0 where
   pub place : n.place ≡ fitted p i.across i.down
   pub pixels : IsWhole i n ⊎ IsSmaller i n
 
@@ -74,7 +74,7 @@ abbrev pub IsLogoCause : Asked → List ℕ → Rectangle → ℕ → Refusal �
 IsLogoCause a file area room refusal =
     ((refusal ≢ refusals.SmallBuffer) × IsCauseFor a room refusal)
     ⊎ (IsPlaceCause a area refusal
-    ⊎ ((MayHaveLogo a area × ((e : PngError) × (IsRefused file e × (refusal ≡ logo_refusal e))))
+    ⊎ ((MayHaveLogo a area × ((e : PngError) × (IsFileRefused file e × (refusal ≡ logo_refusal e))))
     ⊎ ((refusal ≡ refusals.SmallBuffer) × ((bytes : List ℕ) × (IsWithLogo a file area bytes × (room < length bytes))))))
 
 -- writes the picture with a logo, and returns its length

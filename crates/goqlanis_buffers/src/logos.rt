@@ -18,7 +18,7 @@ use qrcode_damage::areas::Rectangle;
 use qrcode_png::{Picture, PngError, read};
 use qrcode_sheets::formats::Format;
 use qrcode_sheets::sheet::Overlay;
-use qrcode_sheets::{GREATEST_PAINTED, Inset, Place};
+use qrcode_sheets::{GREATEST_PAINTED, Inset, Region};
 use std::alloc::Global;
 
 /// Draws a picture with a logo, the PNG file `logo`, over the modules of `area` to the start of
@@ -54,7 +54,7 @@ pub fn put_with_logo(
 }
 
 // The place of an area in pixels, if the picture may have a logo there.
-fn place_of(asked: &Asked<'_>, format: Format, area: Rectangle) -> Result<Place, Refusal>
+fn place_of(asked: &Asked<'_>, format: Format, area: Rectangle) -> Result<Region, Refusal>
     requires { IsDrawable asked.now format }
     ensures may { IfOk result (λ _. MayHaveLogo asked.now area) }
     ensures value { IfOk result (λ place. place ≡ logo_place asked.now area) }
@@ -87,7 +87,7 @@ fn drawn_over(
     alloc: Global,
     asked: &Asked<'_>,
     area: Rectangle,
-    place: Place,
+    place: Region,
     picture: &Picture,
 ) -> QrResult<Vec<u8>>
     requires may { MayHaveLogo asked.now area }

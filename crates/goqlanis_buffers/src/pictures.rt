@@ -4,7 +4,7 @@ ghost use Rattle.std.specs.Prelude.{◌≡◌, ◌≢◌, ◌↔◌, ◌<◌, �
 ghost use Rattle.qrcode_types.specs.declared.types.QrError.TheVariants.{OutOfMemory};
 ghost use Rattle.qrcode_sheets.specs.Formats.{row};
 ghost use Rattle.qrcode_sheets.specs.Drawn.{takes_overlay};
-ghost use Rattle.qrcode_sheets.specs.Paths.{frame_of, plain};
+ghost use Rattle.qrcode_sheets.specs.Paths.{frame_of, plain_frame};
 ghost use Rattle.qrcode_sheets.specs.Sheets.{overlay_of};
 ghost use Rattle.goqlanis_buffers.specs.Shades.{colors_of};
 ghost use Rattle.goqlanis_request.specs.Drawings.{sized};
@@ -293,7 +293,7 @@ fn dots_of(format: Format, drawing: &Drawing) -> Option<u32>
 
 // A frame with the size that these pixels per inch give, if there are any.
 fn sized_frame(dots: Option<u32>) -> Frame<'static>
-    ensures value { frame_of result ≡ sized dots plain }
+    ensures value { frame_of result ≡ sized dots plain_frame }
 {
     let plain = Frame::plain();
     match dots {

@@ -17,7 +17,7 @@ use goqlanis_request::shrinking::shrunk;
 use qrcode::QrCode;
 use qrcode_damage::areas::Rectangle;
 use qrcode_sheets::formats::LogoForm;
-use qrcode_sheets::{Inset, Place};
+use qrcode_sheets::{Inset, Region};
 use std::alloc::Global;
 
 // The maximum size of a logo file: 1 MiB.
@@ -128,7 +128,7 @@ impl Spot<'_> {
     }
 
     // Returns the place of the area within a margin, in pixels.
-    fn place(&self, margin: u8) -> Done<Place>
+    fn place(&self, margin: u8) -> Done<Region>
         ensures { IfOk result HasPixels }
     {
         match place_in(self.request, self.code, self.area, margin) {

@@ -21,7 +21,7 @@ use Rattle.goqlanis_request.specs.declared.overlays.Inside.{Inside}
 use Rattle.goqlanis_request.specs.declared.overlays.Inside.TheVariants.{Nothing, Cross, Element, Pixels}
 use Rattle.qrcode_sheets.specs.declared.pasting.Window.{Window}
 use Rattle.goqlanis_request.specs.Places.{place_in, HasRoom}
-use Rattle.qrcode_sheets.specs.declared.places.Place.{Place}
+use Rattle.qrcode_sheets.specs.declared.places.Region.{Region}
 use Rattle.goqlanis_request.specs.declared.request.Request.{Request}
 
 -- light are the modules of the symbol under the requested mask, with those of the area light
@@ -41,7 +41,7 @@ pub record IsCrossWidth (side width : ℕ) : Type 0 where
   pub at_least : 7 * side < 46 * width + 23
 
 -- an `svg` element at a place; `rest` is everything after its position and size
-abbrev pub svg_element : Place → List ℕ → List ℕ
+abbrev pub svg_element : Region → List ℕ → List ℕ
 svg_element p rest =
     codes "<svg x=\"" ++ (decimal p.left ++ (codes "\" y=\"" ++ (decimal p.top ++ (codes "\" width=\"" ++ (decimal p.width ++ (codes "\" height=\"" ++ (decimal p.height ++ (codes "\"" ++ rest))))))))
 

@@ -21,7 +21,7 @@ use qrcode_damage::areas::{Area, Rectangle};
 use qrcode_damage::covered::lightened;
 use qrcode_sheets::formats::{Format, LogoForm};
 use qrcode_sheets::sheet::Overlay;
-use qrcode_sheets::{Inset, Place, Window};
+use qrcode_sheets::{Inset, Region, Window};
 use std::alloc::{AllocError, Global};
 
 /// Returns the modules along the side of the area that the Swiss cross of a bill covers, in a
@@ -44,7 +44,7 @@ pub fn cross_width(request: &Request<'_>, code: &QrCode) -> u32
 }
 
 // An `svg` element at `place`; `rest` is everything after its position and size.
-fn svg_element(alloc: Global, place: Place, rest: &str) -> Result<String, AllocError>
+fn svg_element(alloc: Global, place: Region, rest: &str) -> Result<String, AllocError>
     ensures { IfOk result (λ text. string_bytes text ≡ svg_element place rest.now) }
 {
     let (left, top, width, height) = (place.left, place.top, place.width, place.height);

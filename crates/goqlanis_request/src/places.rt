@@ -9,11 +9,11 @@ use crate::drawing::{quiet_zone, unit};
 use crate::request::Request;
 use qrcode::QrCode;
 use qrcode_damage::areas::Rectangle;
-use qrcode_sheets::Place;
+use qrcode_sheets::Region;
 
 /// Returns where `area` less `margin` modules on each side is in the drawing, in the units that
 /// overlays are placed in. Returns `None` if no module is left, or `area` is not inside the symbol.
-pub fn place_in(request: &Request<'_>, code: &QrCode, area: Rectangle, margin: u8) -> Option<Place>
+pub fn place_in(request: &Request<'_>, code: &QrCode, area: Rectangle, margin: u8) -> Option<Region>
     ensures value { IfSome result (λ place.
         place ≡ place_in request.now code.now.version area margin) }
     ensures none { IfNone result (¬ HasRoom (side code.now.version) area margin) }
@@ -26,7 +26,7 @@ pub fn place_in(request: &Request<'_>, code: &QrCode, area: Rectangle, margin: u
 /// Returns where `area` less `margin` modules on each side is in a drawing of `side` by `side`
 /// modules of `unit` pixels, with a quiet zone of `zone` modules. Returns `None` if no module is
 /// left, or `area` is not inside the symbol.
-pub fn place_at(side: usize, zone: u32, unit: u32, area: Rectangle, margin: u8) -> Option<Place>
+pub fn place_at(side: usize, zone: u32, unit: u32, area: Rectangle, margin: u8) -> Option<Region>
     requires some { 1 ≤ unit }
     requires few { side + zone < 2 ^ 16 }
     requires fits { (side + zone) * unit < 2 ^ 32 }
@@ -42,7 +42,7 @@ pub fn place_at(side: usize, zone: u32, unit: u32, area: Rectangle, margin: u8) 
     if area.width <= both || area.height <= both {
         return None;
     }
-    Some(Place {
+    Some(Region {
         left: (zone + area.left as u32 + margin as u32) * unit,
         top: (zone + area.top as u32 + margin as u32) * unit,
         width: (area.width - both) as u32 * unit,

@@ -2,7 +2,7 @@
 
 ghost use Rattle.std.specs.Prelude.{◌<◌, IfOk, IfSome};
 
-use qrcode_sheets::{Inset, Place};
+use qrcode_sheets::{Inset, Region};
 use std::alloc::{AllocError, Global};
 use std::ops::Range;
 
@@ -58,7 +58,7 @@ pub fn shrunk(alloc: Global, picture: Inset<'_>) -> Result<Option<Vec<[u8; 4]>>,
     ensures down { IfOk result (λ small. IfSome small (λ _.
         picture.entry.place.height < picture.entry.down)) }
 {
-    let Place { width, height, .. } = picture.place;
+    let Region { width, height, .. } = picture.place;
     if picture.across as u32 <= width || picture.down as u32 <= height {
         return Ok(None);
     }

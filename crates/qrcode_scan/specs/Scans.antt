@@ -8,7 +8,7 @@ use Rattle.qrcode_gs1.specs.declared.symbol.Fnc1 as gs1
 use Rattle.qrcode_gs1.specs.symbol.Reading.{ReadsMarkedOnly}
 use Rattle.qrcode_scan.specs.Files.{IsSeenIn, IsUnscanned}
 use Rattle.qrcode_png.specs.Image.{Image, Shade, image_of}
-use Rattle.qrcode_png.specs.Refusals.{IsRefused}
+use Rattle.qrcode_png.specs.Refusals.{IsFileRefused}
 use Rattle.qrcode_scan.specs.Grids.{IsSampled}
 use Rattle.qrcode_scan.specs.Shades.{lightness, dark_of_shades, IsColoursRefusal}
 use Rattle.qrcode_scan.specs.declared.grids.Grid.{Grid}
@@ -129,7 +129,7 @@ IsLargeImage bytes e = (image : Image) × ((image_of bytes ≡ Some image) × Is
 -- why bytes show no pixels: what is wrong with them, or why they are not a PNG file that can be read
 abbrev pub IsUnseen : List ℕ → ScanError → Type 0
 IsUnseen bytes (Unscanned e) = ((is_png bytes ≡ false) × IsUnscanned bytes e) ⊎ IsLargeImage bytes e
-IsUnseen bytes (Png e) = (is_png bytes ≡ true) × IsRefused bytes e
+IsUnseen bytes (Png e) = (is_png bytes ≡ true) × IsFileRefused bytes e
 IsUnseen bytes Jpeg = is_jpeg bytes ≡ true
 IsUnseen bytes NoSquare = ⊥
 IsUnseen bytes (NoSymbol count e) = ⊥

@@ -8,10 +8,10 @@ use Rattle.std.proofs.Math.Nat.{mul-mod_left, zero-mul}
 use Rattle.std.proofs.Math.Seq.{drop-append_seam}
 use Rattle.std.proofs.lemmas.List.{length-append}
 use Rattle.std.proofs.lemmas.List.FromFn.{length-map-range_with_len}
-use Rattle.qrcode_sheets.specs.Files.{bits_from, packed}
+use Rattle.qrcode_sheets.specs.Files.{black_bits_from, black_bytes}
 use Rattle.qrcode_render.specs.Grid.{repeated}
 use Rattle.qrcode_sheets.specs.Printers.{bytes_across, hex_digit}
-use Rattle.qrcode_sheets.specs.Zpl.{reading, read_one, spoiled, with_digits, read, IsRead, digits_of}
+use Rattle.qrcode_sheets.specs.Zpl.{reading, read_one, spoiled, with_digits, read, IsFieldRead, byte_digits}
 use Rattle.qrcode_render.proofs.LineTexts.{flat_range_more}
 
 -- one character more
@@ -20,7 +20,7 @@ unfolding read
 read_more n field c = fold-append (read_one n) (reading 0 []) field (c ∷ [])
 
 -- a letter from g on
-pub read_twenties : (n : ℕ) (field before : List ℕ) (k : ℕ) → 0 < k → k ≤ 20 → IsRead n field before → read n (field ++ (102 + k) ∷ []) ≡ reading (20 * k) before
+pub read_twenties : (n : ℕ) (field before : List ℕ) (k : ℕ) → 0 < k → k ≤ 20 → IsFieldRead n field before → read n (field ++ (102 + k) ∷ []) ≡ reading (20 * k) before
 read_twenties n field before k some most is =
     let one : read_one n (reading 0 before) (102 + k) ≡ reading (20 * k) before = grind (arith, nat_tests) in
     read_more n field (102 + k) ∙ ap (λ r. read_one n r (102 + k)) is ∙ one
@@ -32,7 +32,7 @@ read_ones n field before t k some most is =
     read_more n field (70 + k) ∙ ap (λ r. read_one n r (70 + k)) is ∙ one
 
 -- a digit after letters
-pub read_digit : (n : ℕ) (field before : List ℕ) (t d : ℕ) → d < 16 → read n field ≡ reading t before → IsRead n (field ++ hex_digit d ∷ []) (before ++ replicate (max t 1) d)
+pub read_digit : (n : ℕ) (field before : List ℕ) (t d : ℕ) → d < 16 → read n field ≡ reading t before → IsFieldRead n (field ++ hex_digit d ∷ []) (before ++ replicate (max t 1) d)
 read_digit n field before t d small is =
     let one : read_one n (reading t before) (hex_digit d) ≡ reading 0 (before ++ replicate (max t 1) d) = grind (arith, nat_tests) in
     read_more n field (hex_digit d) ∙ ap (λ r. read_one n r (hex_digit d)) is ∙ one
@@ -43,7 +43,7 @@ rows_above zero n before row long whole = omega (arith, length-append before row
 rows_above (suc k) n before row long whole = let less : suc k - 1 ≡ k = omega arith in rw less (omega (arith, length-append before row))
 
 -- a colon after a row, and after k rows above it
-pub read_colon : (n k : ℕ) (field before row : List ℕ) → length row ≡ n → length before ≡ k * n → IsRead n field (before ++ row) → IsRead n (field ++ 58 ∷ []) ((before ++ row) ++ row)
+pub read_colon : (n k : ℕ) (field before row : List ℕ) → length row ≡ n → length before ≡ k * n → IsFieldRead n field (before ++ row) → IsFieldRead n (field ++ 58 ∷ []) ((before ++ row) ++ row)
 read_colon n k field before row long above is =
     let all = before ++ row in
     let start : length all - n ≡ length before = omega (arith, length-append before row) in
@@ -77,7 +77,7 @@ length-rows (suc m) d n rows long =
     ∙ sym more
 
 -- d colons after a row, and after k rows above it
-pub read_colons : (n k d : ℕ) (field before row : List ℕ) → length row ≡ n → length before ≡ k * n → IsRead n field (before ++ row) → IsRead n (field ++ repeated d (58 ∷ [])) ((before ++ repeated d row) ++ row)
+pub read_colons : (n k d : ℕ) (field before row : List ℕ) → length row ≡ n → length before ≡ k * n → IsFieldRead n field (before ++ row) → IsFieldRead n (field ++ repeated d (58 ∷ [])) ((before ++ repeated d row) ++ row)
 read_colons n k zero field before row long above is =
     ap (read n) (append-nil field) ∙ is ∙ ap (λ xs. reading 0 (xs ++ row)) (sym (append-nil before))
 read_colons n k (suc d) field before row long above is =
@@ -89,11 +89,11 @@ read_colons n k (suc d) field before row long above is =
     ∙ ap (λ xs. reading 0 (xs ++ row)) (append_assoc before (repeated d row) row ∙ ap (λ xs. before ++ xs) (sym (repeated_more d row)))
 
 -- two digits for each byte
-pub length-digits : (bytes : List ℕ) → length (digits_of bytes) ≡ 2 * length bytes
+pub length-digits : (bytes : List ℕ) → length (byte_digits bytes) ≡ 2 * length bytes
 length-digits [] = refl
 length-digits (b ∷ bytes) = omega (arith, length-digits bytes)
 
 -- a byte for every eight pixels
-pub length-packed : (blacks : List Bool) → length (packed blacks) ≡ bytes_across (length blacks)
-unfolding packed
-length-packed blacks = length-map-range_with_len (λ i. bits_from blacks (8 * i) 8) 0 (bytes_across (length blacks))
+pub length-packed : (blacks : List Bool) → length (black_bytes blacks) ≡ bytes_across (length blacks)
+unfolding black_bytes
+length-packed blacks = length-map-range_with_len (λ i. black_bits_from blacks (8 * i) 8) 0 (bytes_across (length blacks))

@@ -91,13 +91,13 @@ clear = record { red = 255; green = 255; blue = 255; opacity = 0 }
 abbrev pub digit_of : ℕ → Option ℕ  -- the value of a hexadecimal digit, ignoring case
 digit_of byte = if nat_lt (digit_value byte) 16 then Some (digit_value byte) else None
 
-abbrev pub part_of : Option ℕ → Option ℕ → Option ℕ  -- the number that two digits make
-part_of (Some high) (Some low) = Some (16 * high + low)
-part_of (Some high) None = None
-part_of None low = None
+abbrev pub two_digit_value : Option ℕ → Option ℕ → Option ℕ  -- the number that two digits make
+two_digit_value (Some high) (Some low) = Some (16 * high + low)
+two_digit_value (Some high) None = None
+two_digit_value None low = None
 
 abbrev pub pair : ℕ → ℕ → Option ℕ
-pair high low = part_of (digit_of high) (digit_of low)
+pair high low = two_digit_value (digit_of high) (digit_of low)
 
 -- the colour of these parts, if none is missing
 abbrev pub colour_of_parts : Option ℕ → Option ℕ → Option ℕ → Option ℕ → Option Colour

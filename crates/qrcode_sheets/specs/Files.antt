@@ -23,13 +23,13 @@ abbrev pub black_bit : List Bool → ℕ → ℕ
 black_bit blacks x = if slice_index_or blacks x false then 1 else 0
 
 -- the number that the bits of `count` pixels from `start` on make, the first highest
-unfoldable pub bits_from : List Bool → ℕ → ℕ → ℕ
-bits_from blacks start zero = 0
-bits_from blacks start (suc count) = 2 * bits_from blacks start count + black_bit blacks (start + count)
+unfoldable pub black_bits_from : List Bool → ℕ → ℕ → ℕ
+black_bits_from blacks start zero = 0
+black_bits_from blacks start (suc count) = 2 * black_bits_from blacks start count + black_bit blacks (start + count)
 
 -- a row of pixels, eight to a byte
-unfoldable pub packed : List Bool → List ℕ
-packed blacks = map (λ i. bits_from blacks (8 * i) 8) (range_with_len 0 ((length blacks + 7) / 8))
+unfoldable pub black_bytes : List Bool → List ℕ
+black_bytes blacks = map (λ i. black_bits_from blacks (8 * i) 8) (range_with_len 0 ((length blacks + 7) / 8))
 
 -- the header of a PBM file: its type P4, its width and height
 abbrev pub pbm_head : ℕ → ℕ → List ℕ
@@ -39,4 +39,4 @@ pbm_head w h = codes "P4\n" ++ (decimal w ++ (codes " " ++ (decimal h ++ codes "
 unfoldable pub pbm_file : Bool → Bool → Bitmap → List ℕ
 pbm_file marked other b =
     pbm_head b.across b.down
-    ++ flat_map (λ y. packed (inked marked other (row_of b y))) (range_with_len 0 b.down)
+    ++ flat_map (λ y. black_bytes (inked marked other (row_of b y))) (range_with_len 0 b.down)

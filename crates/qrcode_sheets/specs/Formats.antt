@@ -142,9 +142,9 @@ abbrev pub is_known : Option (List ℕ) → List ℕ → Bool  -- name is the kn
 is_known None name = false
 is_known (Some known) name = str_eq_ignore_ascii_case known name
 
-abbrev pub is_number : Option ℕ → ℕ → Bool  -- n is the known number
-is_number None n = false
-is_number (Some known) n = known == n
+abbrev pub is_known_number : Option ℕ → ℕ → Bool  -- n is the known number
+is_known_number None n = false
+is_known_number (Some known) n = known == n
 
 abbrev pub named_among : List FormatRow → List ℕ → Option Format  -- the first format with this name
 named_among [] name = None
@@ -156,7 +156,7 @@ ending_among (row ∷ rows) ending = if is_known row.ending ending then Some row
 
 abbrev pub numbered_among : List FormatRow → ℕ → Option Format  -- the first format with this number in C
 numbered_among [] n = None
-numbered_among (row ∷ rows) n = if is_number row.number n then Some row.format else numbered_among rows n
+numbered_among (row ∷ rows) n = if is_known_number row.number n then Some row.format else numbered_among rows n
 
 abbrev pub format_named : List ℕ → Option Format  -- the format with this name
 format_named name = named_among formats name

@@ -8,7 +8,7 @@ use Rattle.qrcode_types.specs.declared.types.Color.TheVariants.{Light}
 use Rattle.qrcode_render.specs.Drawn.{drawn}
 use Rattle.qrcode_sheets.specs.Eps.{eps_paint, eps_rect}
 use Rattle.qrcode_render.specs.Layout.{Layout, layout, pixels_across, pixels_down}
-use Rattle.qrcode_sheets.specs.Paths.{plain, IsPathOf}
+use Rattle.qrcode_sheets.specs.Paths.{plain_frame, IsPathOf}
 use Rattle.qrcode_sheets.specs.Pdf.{IsLayerOf}
 use Rattle.qrcode_render.specs.Picture.{picture}
 use Rattle.qrcode_png.specs.Image.{Image, Shade as Pixel, rgba}
@@ -53,7 +53,7 @@ unit_layout f at = layout at.count at.zone (units f at.across) (units f at.down)
 abbrev pub IsLayer : Format → Sheet → PartInk → List ℕ → Type 0
 IsLayer Eps t k text = text ≡ drawn eps_rect (unit_layout Eps t.at) (layer t k) (eps_paint (eps_ink (shade_of k.ink)))
 IsLayer Pdf t k text = IsLayerOf (rgb (shade_of k.ink)) (picture (unit_layout Pdf t.at) (layer t k)) text
-IsLayer f t k text = IsPathOf [] plain k.ink.name.now (codes "none") (picture (unit_layout f t.at) (layer t k)) text
+IsLayer f t k text = IsPathOf [] plain_frame k.ink.name.now (codes "none") (picture (unit_layout f t.at) (layer t k)) text
 
 -- text is a layer for each colour, one after the other
 abbrev pub AreLayers : Format → Sheet → List PartInk → List ℕ → Type 0

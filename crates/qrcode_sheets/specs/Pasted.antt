@@ -4,7 +4,7 @@ use Rattle.qrcode_png.specs.Image.{Shade, rgba}
 use Rattle.qrcode_render.specs.Layout.{Layout}
 use Rattle.qrcode_sheets.specs.declared.pasting.Inset.{Inset}
 use Rattle.qrcode_sheets.specs.declared.pasting.Window.{Window}
-use Rattle.qrcode_sheets.specs.declared.places.Place.{Place}
+use Rattle.qrcode_sheets.specs.declared.places.Region.{Region}
 use Rattle.qrcode_sheets.specs.Sheets.{Overlay, Pixels}
 
 -- the weighted mean of two levels, rounded to the nearest
@@ -28,7 +28,7 @@ over under s =
 abbrev pub scaled : ℕ → ℕ → ℕ → ℕ
 scaled place count size = (2 * place + 1) * size / (2 * count)
 
-abbrev pub is_in_place : Place → ℕ → ℕ → Bool  -- the pixel in column x and row y is in the place
+abbrev pub is_in_place : Region → ℕ → ℕ → Bool  -- the pixel in column x and row y is in the place
 is_in_place p x y = nat_le p.left x && nat_lt x (p.left + p.width) && nat_le p.top y && nat_lt y (p.top + p.height)
 
 -- the pixel of the picture that is shown at column x and row y of the drawing, if any

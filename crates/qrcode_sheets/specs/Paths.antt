@@ -21,13 +21,13 @@ run_text pen r =
     ++ (codes "h" ++ (decimal r.width ++ (codes "v1h-" ++ decimal r.width))))
 
 -- the pen's position after the subpath of a run: its lower left corner, where the last line ended
-abbrev pub behind : Run → Pen
-behind r = record { column = r.left; row = r.top + 1 }
+abbrev pub pen_after : Run → Pen
+pen_after r = record { column = r.left; row = r.top + 1 }
 
 -- the path of runs, drawn from the pen's position
 abbrev pub path_from : Pen → List Run → List ℕ
 path_from pen [] = []
-path_from pen (r ∷ runs) = run_text pen r ++ path_from (behind r) runs
+path_from pen (r ∷ runs) = run_text pen r ++ path_from (pen_after r) runs
 
 -- the pen's position at the start
 abbrev pub start : Pen
@@ -100,8 +100,8 @@ frame_text f w h columns rows =
     ++ (between (codes "<title>") f.title (codes "</title>") ++ between (codes "<desc>") f.description (codes "</desc>"))))))
 
 -- a frame without texts, in which a pixel of the picture is a CSS pixel
-abbrev pub plain : Frame
-plain = record { id = []; class = []; title = []; description = []; size = Pixels }
+abbrev pub plain_frame : Frame
+plain_frame = record { id = []; class = []; title = []; description = []; size = Pixels }
 
 -- the background, up to its colour
 abbrev pub path_ground : ℕ → ℕ → List ℕ

@@ -69,12 +69,12 @@ abbrev pub under : Paper → List ℕ → List ℕ → List ℕ
 under s dark light = turn s ++ (paint light ++ (ground s ++ paint dark))
 
 -- the runs, filled as one path
-abbrev pub filled : List Run → List ℕ
-filled runs = flat_map run_box runs ++ codes "f\n"
+abbrev pub filled_path : List Run → List ℕ
+filled_path runs = flat_map run_box runs ++ codes "f\n"
 
 -- the operators of the page: the light background, the runs, and what is drawn over them
 abbrev pub content : Paper → List ℕ → List ℕ → List Run → List ℕ → List ℕ
-content s dark light runs over = (under s dark light ++ filled runs) ++ over
+content s dark light runs over = (under s dark light ++ filled_path runs) ++ over
 
 -- a file that is being written: its objects, and the cross-reference table of where they begin
 pub record Body : Type 0 where
@@ -140,7 +140,7 @@ pub record IsLayerOf (parts : List ℕ) (b : Bitmap) (text : List ℕ) : Type 0 
   pub columns : ℕ
   pub rows : ℕ
   pub runs : List Run
-  pub written : text ≡ paint parts ++ filled runs
+  pub written : text ≡ paint parts ++ filled_path runs
   pub shown : AreRunsOf columns rows 1 1 b runs
 
 -- a PDF file whose page shows the picture: it has this many columns and rows of modules, which are the units of the page, and the dark pixels are

@@ -2,12 +2,12 @@
 use Rattle.std.specs.Prelude.{ℕ, ◌+◌, ◌-◌, ◌*◌, ◌/◌, ◌%◌, nat_lt, Bool, List, [], ◌∷◌, ◌++◌, codes, decimal, map, flat_map, if◌then◌else◌}
 use Rattle.std.specs.List.{range_with_len}
 use Rattle.qrcode_render.specs.Bitmap.{Bitmap, row_of}
-use Rattle.qrcode_sheets.specs.Files.{inked, packed}
+use Rattle.qrcode_sheets.specs.Files.{inked, black_bytes}
 
 -- a file: the bytes before the rows, those that the format has for the bytes of each row, and the bytes after the rows
 unfoldable pub packed_file : (ℕ → ℕ → List ℕ) → (List ℕ → List ℕ) → List ℕ → Bool → Bool → Bitmap → List ℕ
 packed_file before row behind marked other b =
-    before b.across b.down ++ flat_map (λ y. row (packed (inked marked other (row_of b y)))) (range_with_len 0 b.down) ++ behind
+    before b.across b.down ++ flat_map (λ y. row (black_bytes (inked marked other (row_of b y)))) (range_with_len 0 b.down) ++ behind
 
 -- the number of bytes of a row of w pixels
 abbrev pub bytes_across : ℕ → ℕ

@@ -2,7 +2,7 @@
 use Rattle.std.specs.Prelude.{◌≡◌, ℕ, ◌+◌, ◌-◌, ◌*◌, ◌/◌, ◌%◌, ◌==◌, nat_le, nat_lt, ◌&&◌, Bool, List, [], ◌∷◌, ◌++◌, codes, decimal, drop, flat_map, fold, length, max, replicate, if◌then◌else◌}
 use Rattle.std.specs.List.{range_with_len}
 use Rattle.qrcode_render.specs.Bitmap.{Bitmap, row_of}
-use Rattle.qrcode_sheets.specs.Files.{inked, packed}
+use Rattle.qrcode_sheets.specs.Files.{inked, black_bytes}
 use Rattle.qrcode_sheets.specs.Printers.{bytes_across}
 
 -- what has been read: the count that letters gave for the next digit, and the digits of all rows
@@ -46,12 +46,12 @@ unfoldable pub read : ℕ → List ℕ → Reading
 read n field = fold (read_one n) (reading 0 []) field
 
 -- a field is read as these digits, and no letter is left over
-abbrev pub IsRead : ℕ → List ℕ → List ℕ → Type 0
-IsRead n field digits = read n field ≡ reading 0 digits
+abbrev pub IsFieldRead : ℕ → List ℕ → List ℕ → Type 0
+IsFieldRead n field digits = read n field ≡ reading 0 digits
 
 -- the two digits of each byte
-abbrev pub digits_of : List ℕ → List ℕ
-digits_of bytes = flat_map (λ b. b / 16 ∷ b % 16 ∷ []) bytes
+abbrev pub byte_digits : List ℕ → List ℕ
+byte_digits bytes = flat_map (λ b. b / 16 ∷ b % 16 ∷ []) bytes
 
 -- a label with a field at a place: the number of its bytes, twice, and that of the bytes in a row
 abbrev pub zpl_head : ℕ × ℕ → ℕ → ℕ → List ℕ
@@ -65,4 +65,4 @@ zpl_tail = codes "^FS^XZ\n"
 pub record IsZplOf (place : ℕ × ℕ) (marked other : Bool) (b : Bitmap) (file : List ℕ) : Type 0 where
   pub field : List ℕ
   pub written : file ≡ zpl_head place b.across b.down ++ (field ++ zpl_tail)
-  pub shown : IsRead (2 * bytes_across b.across) field (flat_map (λ y. digits_of (packed (inked marked other (row_of b y)))) (range_with_len 0 b.down))
+  pub shown : IsFieldRead (2 * bytes_across b.across) field (flat_map (λ y. byte_digits (black_bytes (inked marked other (row_of b y)))) (range_with_len 0 b.down))

@@ -63,13 +63,13 @@ impl Pixel for Color {
 }
 
 /// The canvas for EPS: a box for each dark rectangle.
-pub type Canvas = Plot<Color, Boxes>;
+pub type Canvas = Plot<Color, FilledRectangles>;
 
 /// The texts of the EPS format.
 #[derive(Copy, Clone)]
-pub struct Boxes;
+pub struct FilledRectangles;
 
-impl Strokes<Color> for Boxes {
+impl Strokes<Color> for FilledRectangles {
     ghost start = { eps_start };
 
     ghost end = { eps_end };
@@ -123,7 +123,7 @@ pub fn with_extras(
     let head = front(alloc, modules.pixels(), dots, dark, light)?;
     let mut file = Canvas::after(head, &modules)?.into_bytes();
     file.extend_from_slice(over)?;
-    file.extend_from_slice(Boxes::tail().as_bytes())?;
+    file.extend_from_slice(FilledRectangles::tail().as_bytes())?;
     Ok(file)
 }
 
@@ -156,7 +156,7 @@ fn front(
 {
     match dots {
         Some(dots) if dots > 0 => sized_head(alloc, sides, dots, dark, light),
-        _ => Boxes::head(alloc, sides.0, sides.1, dark, light),
+        _ => FilledRectangles::head(alloc, sides.0, sides.1, dark, light),
     }
 }
 

@@ -2,7 +2,7 @@
 
 ghost use Rattle.std.specs.Prelude.{◌≡◌, map};
 ghost use Rattle.std.specs.Option.{option_map};
-ghost use Rattle.qrcode_sheets.specs.Formats.{ending_among, format_named, format_numbered, format_of_ending, is_known, is_number, named_among, numbered_among, row, format_row};
+ghost use Rattle.qrcode_sheets.specs.Formats.{ending_among, format_named, format_numbered, format_of_ending, is_known, is_known_number, named_among, numbered_among, row, format_row};
 
 pub mod laws;
 
@@ -225,7 +225,7 @@ fn numbered_among(rows: &[FormatRow], number: u32) -> Option<Format>
 
 // Whether a number is the known one.
 fn is_number(known: Option<u32>, number: u32) -> bool
-    ensures { result ≡ is_number known number }
+    ensures { result ≡ is_known_number known number }
 {
     known.is_some_and(|known| known == number)
 }

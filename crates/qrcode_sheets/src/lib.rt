@@ -30,6 +30,6 @@ pub mod zpl;
 pub use layers::{PartInk, units};
 pub use parts::CodePart;
 pub use pasting::{Inset, Window};
-pub use places::Place;
+pub use places::Region;
 pub use render::{DrawError, draw, takes_overlay, takes_parts};
 pub use shades::GREATEST_PAINTED;

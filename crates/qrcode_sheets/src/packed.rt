@@ -5,7 +5,7 @@ ghost use Rattle.std.specs.Prelude.{◌≡◌, ℕ, ◌+◌, ◌*◌, ◌/◌, �
 ghost use Rattle.std.specs.List.{range_with_len};
 ghost use Rattle.qrcode_types.specs.declared.types.QrError.TheVariants.{OutOfMemory};
 ghost use Rattle.qrcode_types.specs.Colors.{is_dark};
-ghost use Rattle.qrcode_sheets.specs.Files.{inked, black_bit, bits_from, packed};
+ghost use Rattle.qrcode_sheets.specs.Files.{inked, black_bit, black_bits_from, black_bytes};
 ghost use Rattle.qrcode_render.specs.Grid.{all_columns, all_rows, cell_row, each, pixels_of, repeated};
 ghost use Rattle.qrcode_sheets.specs.Ink.{is_black};
 ghost use Rattle.qrcode_sheets.specs.Printers.{packed_file};
@@ -79,7 +79,7 @@ impl<F> Dot<F> {
 impl<F: Packing> Pixel for Dot<F> {
     type Image = Vec<u8>;
 
-    type Canvas = Page<Dot<F>, Rows<F>>;
+    type Canvas = Page<Dot<F>, PackedFile<F>>;
 
     ghost unit = { (8, 8) };
 
@@ -98,11 +98,11 @@ impl<F: Packing> Pixel for Dot<F> {
 
 /// Turns black and white pixels into a file of the format `F`.
 #[derive(Copy, Clone)]
-pub struct Rows<F> {
+pub struct PackedFile<F> {
     of: PhantomData<F>,
 }
 
-impl<F: Packing> Finish<Dot<F>> for Rows<F> {
+impl<F: Packing> Finish<Dot<F>> for PackedFile<F> {
     type Image = Vec<u8>;
 
     ghost is_image = { λ b dark light file. file.items
@@ -166,7 +166,7 @@ fn push_packed_rows<F: Packing>(
 ) -> QrResult<()>
     requires length { length marks.old ≡ all_columns grid.now }
     ensures appends { OnOk result (file.new.items ≡ file.old.items ++ flat_map (λ row.
-        repeated grid.now.down (F.row_of (packed (inked marked other
+        repeated grid.now.down (F.row_of (black_bytes (inked marked other
         (each grid.now.across (cell_row grid.now row)))))) (range_with_len 0 (all_rows grid.now))) }
     ensures memory { IsOkUnless result OutOfMemory }
 {
@@ -196,7 +196,7 @@ pub(crate) fn packed_row(
     requires at_least { 1 ≤ across }
     requires fits { length marks.now * across < 2 ^ 32 }
     ensures value { IfOk result (λ bytes.
-        bytes.items ≡ packed (inked marked other (each across marks.now))) }
+        bytes.items ≡ black_bytes (inked marked other (each across marks.now))) }
     ensures memory { IsOkUnless result OutOfMemory }
 {
     let count = (marks.len() * across as usize + 7) / 8;
@@ -212,7 +212,7 @@ pub(crate) fn packed_row(
 fn packed_byte(marks: &[bool], across: u32, start: usize, marked: bool, other: bool) -> u8
     requires at_least { 1 ≤ across }
     requires at_most { start < 2 ^ 32 }
-    ensures { result ≡ bits_from (inked marked other (each across marks.now)) start 8 }
+    ensures { result ≡ black_bits_from (inked marked other (each across marks.now)) start 8 }
 {
     if (start + 7) / across as usize == start / across as usize {
         return 255 * black_bit(marks, across, start, marked, other);

@@ -5,7 +5,7 @@ ghost use Rattle.qrcode_png.specs.Image.{rgba};
 ghost use Rattle.qrcode_sheets.specs.Pasted.{is_shown, logo_at, mean, over, scaled, shade_with, shows};
 ghost use Rattle.qrcode_sheets.specs.Sheets.{overlay_of, sheet_of};
 
-use crate::places::Place;
+use crate::places::Region;
 use crate::sheet::{Overlay, Sheet};
 
 /// A picture, as red, green, blue and opacity of each pixel, row by row; and the place in the
@@ -15,7 +15,7 @@ pub struct Inset<'a> {
     pub pixels: &'a [[u8; 4]],
     pub across: u16,
     pub down: u16,
-    pub place: Place,
+    pub place: Region,
 }
 
 /// A rectangle of modules, in which a picture is shown.

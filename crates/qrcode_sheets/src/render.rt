@@ -106,7 +106,7 @@ fn file_of(alloc: Global, format: Format, sheet: &Sheet<'_, '_, '_>) -> QrResult
         Format::Zpl => zpl(alloc, sheet),
         Format::Tspl => tspl(alloc, sheet),
         Format::EscPos => bits::<escpos::Raster>(alloc, sheet),
-        Format::Xbm => bits::<xbm::Text>(alloc, sheet),
+        Format::Xbm => bits::<xbm::SourceText>(alloc, sheet),
     }
 }
 

@@ -6,7 +6,7 @@ ghost use Rattle.qrcode_types.specs.declared.types.QrError.TheVariants.{OutOfMem
 ghost use Rattle.qrcode_types.specs.Colors.{select_of};
 ghost use Rattle.qrcode_render.specs.Grid.{all_columns, all_rows, pixels_of};
 ghost use Rattle.qrcode_render.specs.Setting.{fits, picture_of, side_of};
-ghost use Rattle.qrcode_sheets.specs.Paths.{attribute, between, box_end, box_text, frame_of, frame_text, path_front, path_ground, plain, side_text, size_text, xml_head, IsPathIn, IsPathOf};
+ghost use Rattle.qrcode_sheets.specs.Paths.{attribute, between, box_end, box_text, frame_of, frame_text, path_front, path_ground, plain_frame, side_text, size_text, xml_head, IsPathIn, IsPathOf};
 
 use crate::paths::push_runs;
 use crate::runs::{Run, runs_of};
@@ -84,7 +84,7 @@ impl<'a> Finish<Path<'a>> for WithHead {
     type Image = String;
 
     ghost is_image = { λ b dark light text.
-        IsPathOf xml_head plain dark.0.now light.0.now b (string_bytes text) };
+        IsPathOf xml_head plain_frame dark.0.now light.0.now b (string_bytes text) };
 
     fn image(alloc: Global, grid: &Grid, dark: Path<'a>, light: Path<'a>) -> QrResult<String> {
         let text = String::from_str(alloc, "<?xml version=\"1.0\" standalone=\"yes\"?>")?;
@@ -96,7 +96,7 @@ impl<'a> Finish<PathElement<'a>> for WithoutHead {
     type Image = String;
 
     ghost is_image = { λ b dark light text.
-        IsPathOf [] plain dark.0.now light.0.now b (string_bytes text) };
+        IsPathOf [] plain_frame dark.0.now light.0.now b (string_bytes text) };
 
     fn image(
         alloc: Global,
@@ -138,7 +138,7 @@ pub struct Frame<'a> {
 impl<'a> Frame<'a> {
     /// Returns a frame without texts, in which a pixel of the picture is a CSS pixel.
     pub fn plain() -> Frame<'a>
-        ensures { frame_of result ≡ plain }
+        ensures { frame_of result ≡ plain_frame }
     {
         Frame {
             id: "",
@@ -178,7 +178,7 @@ pub fn framed(
 
 // Returns `text` followed by the element, without elements over the path.
 fn with_element(text: String, grid: &Grid, dark: &str, light: &str) -> QrResult<String>
-    ensures value { IfOk result (λ whole. IsPathOf (string_bytes text) plain dark.now light.now
+    ensures value { IfOk result (λ whole. IsPathOf (string_bytes text) plain_frame dark.now light.now
         (pixels_of grid.now) (string_bytes whole)) }
     ensures memory { IsOkUnless result OutOfMemory }
 {

@@ -10,13 +10,13 @@ use qrcode_types::types::QrResult;
 use std::alloc::Global;
 
 /// A pixel of an XBM file.
-pub type Dot = packed::Dot<Text>;
+pub type Dot = packed::Dot<SourceText>;
 
 /// The XBM format.
 #[derive(Copy, Clone)]
-pub struct Text;
+pub struct SourceText;
 
-impl Packing for Text {
+impl Packing for SourceText {
     ghost before = { xbm_head };
 
     ghost row_of = { xbm_row };

@@ -1,7 +1,7 @@
 use Rattle.std.proofs.Common.{◌++◌, ap, ap₂, ◌∙◌, subst}
 use Rattle.qrcode_render.specs.Grid.{Grid, all_columns, all_rows, pixels_of}
 use Rattle.qrcode_sheets.specs.Paths.{AreRunsOf}
-use Rattle.qrcode_sheets.specs.Pdf.{filled, paint}
+use Rattle.qrcode_sheets.specs.Pdf.{filled_path, paint}
 use Rattle.qrcode_sheets.proofs.pdf.layer.Goals as goal
 
 pub returns-clause-value : goal.returns-clause-value
@@ -14,6 +14,6 @@ returns-clause-value c =
       runs = runs;
       written =
           c.in_ok-extend_from_slice.ensures.items
-          ∙ ap₂ (λ t f. t ++ f) (c.in_ok-push_paint.ensures.appends ∙ ap (λ t. t ++ paint c.args.color.0) c.new-text.ensures.items) (c.as_bytes.ensures.value ∙ c.in_ok-filled.ensures.value ∙ ap filled c.deref.ensures.value);
+          ∙ ap₂ (λ t f. t ++ f) (c.in_ok-push_paint.ensures.appends ∙ ap (λ t. t ++ paint c.args.color.0) c.new-text.ensures.items) (c.as_bytes.ensures.value ∙ c.in_ok-filled.ensures.value ∙ ap filled_path c.deref.ensures.value);
       shown = subst (λ (g : Grid). AreRunsOf (all_columns g) (all_rows g) g.across g.down (pixels_of g) runs) c.new-grid.ensures c.in_ok-runs.ensures.value;
     }

@@ -1,7 +1,7 @@
 use Rattle.std.proofs.Common.{◌≡◌, ℕ, ◌*◌, List, ◌++◌, ap, ap₂, ◌∙◌, sym, append_assoc}
-use Rattle.qrcode_sheets.specs.Files.{inked, packed}
+use Rattle.qrcode_sheets.specs.Files.{inked, black_bytes}
 use Rattle.qrcode_render.specs.Grid.{all_columns, all_rows}
-use Rattle.qrcode_sheets.specs.Zpl.{digits_of, reading, zpl_head, zpl_tail}
+use Rattle.qrcode_sheets.specs.Zpl.{byte_digits, reading, zpl_head, zpl_tail}
 use Rattle.qrcode_render.proofs.Grids.{rows_by_cells}
 use Rattle.qrcode_sheets.proofs.zpl.label.Goals as goal
 
@@ -19,5 +19,5 @@ returns-clause-shows c =
           ∙ append_assoc (zpl_head c.args.place (all_columns grid * grid.across) (all_rows grid * grid.down)) field zpl_tail;
       shown =
           c.in_ok-push_rows.ensures.reads
-          ∙ ap (reading 0) (sym (rows_by_cells (λ marks. digits_of (packed (inked c.args.marked c.args.other marks))) grid sides.at_least.0 sides.at_least.1));
+          ∙ ap (reading 0) (sym (rows_by_cells (λ marks. byte_digits (black_bytes (inked c.args.marked c.args.other marks))) grid sides.at_least.0 sides.at_least.1));
     }

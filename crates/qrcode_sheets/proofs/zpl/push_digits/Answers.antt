@@ -1,7 +1,7 @@
 use Rattle.std.proofs.Common.{◌≡◌, ℕ, ◌+◌, ◌-◌, ◌<◌, List, [], ◌∷◌, ◌++◌, replicate, get_or, ap, ◌∙◌, sym, subst, arith, append_assoc}
 use Rattle.std.proofs.lemmas.List.{replicate-append-replicate, take_all, take_more}
 use Rattle.std.proofs.lemmas.List.Elements.{All-get_or}
-use Rattle.qrcode_sheets.specs.Zpl.{IsRead}
+use Rattle.qrcode_sheets.specs.Zpl.{IsFieldRead}
 use Rattle.qrcode_sheets.proofs.zpl.push_digits.Goals as goal
 
 pub loop-i-preserved : goal.loop-i-preserved
@@ -25,7 +25,7 @@ loop-i-preserved c =
                 ∙ ap (λ xs. xs ++ next ∷ []) (kept.1.0 ∙ ap (λ xs. done ++ xs) c.in_ok-count.ensures.left)
                 ∙ regroup done more left next,
             λ n before is.
-                subst (λ xs. IsRead n c.push_ended.new.field.items xs) (append_assoc before done more) (c.in_ok-count.ensures.reads n (before ++ done) (kept.1.1 n before is)),
+                subst (λ xs. IsFieldRead n c.push_ended.new.field.items xs) (append_assoc before done more) (c.in_ok-count.ensures.reads n (before ++ done) (kept.1.1 n before is)),
           ),
         ),
       ),
@@ -43,4 +43,4 @@ returns-clause-reads c =
     let kept = c.loop-i.invariant.1.1 in
     let run : List ℕ = replicate c.loop-i.count c.loop-i.digit in
     let all : before ++ kept.0 ++ run ≡ before ++ c.args.digits.now = append_assoc before kept.0 run ∙ ap (λ xs. before ++ xs) (sym kept.1.0 ∙ take_all c.loop-i.i c.args.digits.now (omega arith)) in
-    subst (λ xs. IsRead n c.push_run.new.field.items xs) all (c.in_ok-push_run.ensures.reads n (before ++ kept.0) (kept.1.1 n before is))
+    subst (λ xs. IsFieldRead n c.push_run.new.field.items xs) all (c.in_ok-push_run.ensures.reads n (before ++ kept.0) (kept.1.1 n before is))

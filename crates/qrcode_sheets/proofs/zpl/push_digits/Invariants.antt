@@ -1,5 +1,5 @@
 use Rattle.std.proofs.Common.{◌≡◌, ℕ, ◌<◌, ◌≤◌, List, ◌++◌, replicate, take}
-use Rattle.qrcode_sheets.specs.Zpl.{IsRead}
+use Rattle.qrcode_sheets.specs.Zpl.{IsFieldRead}
 use Rattle.qrcode_sheets.proofs.zpl.push_digits.Given as goal
 
 -- the digits before the run are written
@@ -7,4 +7,4 @@ abbrev pub invariant-loop-i : goal.invariant-loop-i
 invariant-loop-i l =
     (l.count ≤ 400) × ((l.digit < 16)
     × ((done : List ℕ) × ((take l.i l.digits ≡ done ++ replicate l.count l.digit)
-    × ((n : ℕ) (before : List ℕ) → IsRead n l.fn.field.items before → IsRead n l.field.items (before ++ done)))))
+    × ((n : ℕ) (before : List ℕ) → IsFieldRead n l.fn.field.items before → IsFieldRead n l.field.items (before ++ done)))))
