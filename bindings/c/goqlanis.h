@@ -620,7 +620,7 @@ typedef struct {
     size_t last; /* how many modules of the last copy; in Micro, which has one copy, the same */
     size_t least; /* how many more codewords of each block may be lost elsewhere, or 0 */
     uint32_t may_show_anything; /* 1 if the symbol decodes whatever the area shows, else 0 */
-} goq_taken;
+} goq_area_use;
 
 /* What goq_largest_area looks for. Initialise with GOQ_WISH, then change what you need. */
 typedef struct {
@@ -868,10 +868,10 @@ goq_answer goq_encode_gs1(const goq_element *elements, size_t elements_length,
 
 /* Reports what an area takes of a symbol of this version and level. How many codewords of each
    block have modules in it goes to `touched` (GOQ_BLOCKS_MAX are always enough), the rest to
-   `taken`. Errors: GOQ_NO_SUCH_LEVEL, GOQ_NO_SUCH_VERSION, GOQ_LEVEL_NOT_IN_VERSION,
+   `area_use`. Errors: GOQ_NO_SUCH_LEVEL, GOQ_NO_SUCH_VERSION, GOQ_LEVEL_NOT_IN_VERSION,
    GOQ_NO_SUCH_AREA (also for more than 31,329 rectangles). */
 goq_answer goq_reserve(uint32_t version, uint32_t level, const goq_rectangle *area,
-    size_t area_length, size_t *touched, size_t touched_length, goq_taken *taken);
+    size_t area_length, size_t *touched, size_t touched_length, goq_area_use *area_use);
 
 /* Finds the largest rectangle in the middle of a symbol of this version and level that may show
    anything and leaves what `wish` asks for, and writes it to `rectangle`. Both sides are odd.

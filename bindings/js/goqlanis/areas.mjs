@@ -15,10 +15,10 @@ export function reserve({ version, level }, area) {
 
 function reserveOf(version, level, rectangles) {
     return within((buffers) => {
-        const touched = buffers.room(8 * BLOCKS_MAX), taken = buffers.many("goq_taken", 1);
+        const touched = buffers.room(8 * BLOCKS_MAX), use = buffers.many("goq_area_use", 1);
         refuse(answer("goq_reserve", version, level, buffers.structs("goq_rectangle", rectangles),
-            rectangles.length, touched, BLOCKS_MAX, taken));
-        const found = buffers.struct("goq_taken", taken);
+            rectangles.length, touched, BLOCKS_MAX, use));
+        const found = buffers.struct("goq_area_use", use);
         return { touched: buffers.sizes(touched, found.blocks), allowed: found.allowed,
             worst: found.worst, formatModules: [found.first, found.last],
             least: found.may_show_anything ? found.least : null };

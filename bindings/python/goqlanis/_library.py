@@ -20,7 +20,7 @@ def _struct(name: str, fields: str) -> Any:
 
 
 (Options, Several, Drawing, Known, Segment, Field, Element, Read, AnyRead, Part, Code, Scan,
- MissedCode, WrongModules, DataBits, Rank, Checked, Checks, Square, Rectangle, Taken, Wish, Wrong,
+ MissedCode, WrongModules, DataBits, Rank, Checked, Checks, Square, Rectangle, AreaUse, Wish, Wrong,
  Promised) = (_struct(*it) for it in STRUCTS.items())
 
 _KINDS = {"number": _number, "size": _size, "data": ctypes.c_void_p,

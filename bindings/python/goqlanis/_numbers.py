@@ -46,7 +46,7 @@ STRUCTS = {"goq_options": "size level manner version min_version boost mask",
     "goq_checked": "version level mask standard grade blocks:size allowed:size unused:size wrong:goq_wrong_modules data:goq_data_bits masks:goq_rank masks_here:goq_rank",
     "goq_checks": "size codes:size blocks:size", "goq_square": "modules:data length:size",
     "goq_rectangle": "left:size top:size width:size height:size",
-    "goq_taken": "blocks:size allowed:size worst:size first:size last:size least:size may_show_anything",
+    "goq_area_use": "blocks:size allowed:size worst:size first:size last:size least:size may_show_anything",
     "goq_wish": "size across down reserve keep_alignment",
     "goq_wrong": "size codewords:size format_bits:size version_bits:size pattern_modules:size seed:size",
     "goq_promised": "codewords:size is_promised"}
@@ -73,7 +73,7 @@ CALLS = {"goq_version": "", "goq_encode_with": "data size goq_options data size 
     "goq_content": "number goq_field size data size sizes sizes",
     "goq_gs1": "goq_element size data size sizes sizes",
     "goq_encode_gs1": "goq_element size goq_options data size goq_symbol sizes",
-    "goq_reserve": "number number goq_rectangle size sizes size goq_taken",
+    "goq_reserve": "number number goq_rectangle size sizes size goq_area_use",
     "goq_largest_area": "number number goq_wish goq_rectangle",
     "goq_cover": "data size goq_rectangle size sizes",
     "goq_damage": "data size goq_wrong goq_promised"}

@@ -11,7 +11,7 @@ from . import _checks
 from . import _numbers as goq
 from ._checks import LEVELS
 from ._library import Rectangle as Given
-from ._library import Taken, Wish, library
+from ._library import AreaUse, Wish, library
 from .errors import Error, NoSuchArea, NotPicture, refusal, refuse
 
 HALF = 0xffffffff
@@ -53,12 +53,12 @@ def reserve(version: int, level: int, area: Area) -> Reserve:
 
 
 def _reserve(version: int, level: int, given: Any, count: int) -> Reserve:
-    counts, taken = (ctypes.c_size_t * goq.BLOCKS_MAX)(), Taken()
+    counts, use = (ctypes.c_size_t * goq.BLOCKS_MAX)(), AreaUse()
     answer = library.goq_reserve(version, level, given, count, counts, len(counts),
-                                 ctypes.byref(taken))
+                                 ctypes.byref(use))
     refuse(answer)
-    return Reserve(tuple(counts[:taken.blocks]), taken.allowed, taken.worst,
-                   (taken.first, taken.last), taken.least if taken.may_show_anything else None)
+    return Reserve(tuple(counts[:use.blocks]), use.allowed, use.worst, (use.first, use.last),
+                   use.least if use.may_show_anything else None)
 
 
 def largest(version: int, level: int, ratio: Any, kept: Any, keep_alignment: bool) -> Rectangle:

@@ -27,14 +27,14 @@ use Rattle.goqlanis_buffers.specs.declared.answers.Fault.{Fault}
 use Rattle.goqlanis_buffers.specs.declared.answers.Fault.TheVariants.{At, Other}
 use Rattle.goqlanis_buffers.specs.declared.answers.Refusal.{Refusal}
 use Rattle.goqlanis_buffers.specs.declared.answers.Refusal.TheVariants.{AreaBlock, AreaFormat, NoArea, NoSuchArea, NoSuchStruct, OutOfMemory, SmallBuffer}
-use Rattle.goqlanis_buffers.specs.declared.areas.Taken.{Taken}
+use Rattle.goqlanis_buffers.specs.declared.areas.AreaUse.{AreaUse}
 use Rattle.goqlanis_buffers.specs.declared.areas.Wish.{Wish}
 
 abbrev pub told : ℕ → ℕ → Option ℕ  -- the number n, or none if the flag is 0
 told is_there n = if is_there == 0 then None else Some n
 
 -- how many codewords of each block an area touches, and what else it takes of a symbol
-pub record IsTaken (v : Version) (l : EcLevel) (area : ℕ → ℕ → Bool) (counts : List ℕ) (t : Taken) : Type 0 where
+pub record IsTaken (v : Version) (l : EcLevel) (area : ℕ → ℕ → Bool) (counts : List ℕ) (t : AreaUse) : Type 0 where
   pub counted : counts ≡ map (touched v l area) (range_with_len 0 (length (block_lengths v l)))
   pub blocks : t.blocks ≡ length (block_lengths v l)
   pub allowed : t.allowed ≡ ec_length v l / 2
@@ -45,7 +45,7 @@ pub record IsTaken (v : Version) (l : EcLevel) (area : ℕ → ℕ → Bool) (co
   pub least : IsLeast v l area (told t.may_show_anything t.least)
 
 -- what rectangles take of a symbol of the version and level with these numbers; the counts are at the start of a buffer
-pub record IsTakenInto (version level : ℕ) (rectangles : List Rectangle) (old new : List ℕ) (t : Taken) : Type 0 where
+pub record IsTakenInto (version level : ℕ) (rectangles : List Rectangle) (old new : List ℕ) (t : AreaUse) : Type 0 where
   pub v : Version
   pub l : EcLevel
   pub named : IsLevelNamed version level v l
@@ -67,7 +67,7 @@ IsReserveCause version level rectangles room SmallBuffer =
 IsReserveCause version level rectangles room OutOfMemory = ⊤
 IsReserveCause version level rectangles room refusal = IsPairCause version level refusal
 
-abbrev pub WritesReserve : ℕ → ℕ → List Rectangle → List ℕ → List ℕ → Result Taken Refusal → Type 0
+abbrev pub WritesReserve : ℕ → ℕ → List Rectangle → List ℕ → List ℕ → Result AreaUse Refusal → Type 0
 WritesReserve version level rectangles old new result =
     Writes (IsTakenInto version level rectangles old) (IsReserveCause version level rectangles (length old)) old new result
 

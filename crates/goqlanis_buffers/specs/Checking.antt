@@ -11,7 +11,7 @@ use Rattle.qrcode_check.specs.declared.checking.Check.{Check}
 use Rattle.qrcode_check.specs.declared.checking.Content.{Content}
 use Rattle.qrcode_check.specs.declared.correction.Grade.{Grade}
 use Rattle.qrcode_check.specs.declared.correction.Grade.TheVariants.{A, B, C, D, F}
-use Rattle.qrcode_check.specs.declared.segments.Taken.{Taken}
+use Rattle.qrcode_check.specs.declared.segments.BitUse.{BitUse}
 use Rattle.qrcode_scan.specs.Checked.{AreChecksOf, IsUncheckedPicture}
 use Rattle.qrcode_scan.specs.declared.scanning.Scan.{Scan}
 use Rattle.goqlanis_buffers.specs.Answers.{IsSquareCause}
@@ -35,7 +35,7 @@ letter_of C = 67
 letter_of D = 68
 letter_of F = 70
 
-abbrev pub with_taken : Option Taken → DataBits → DataBits  -- the bits of segments, and the fewest, if they are known
+abbrev pub with_taken : Option BitUse → DataBits → DataBits  -- the bits of segments, and the fewest, if they are known
 with_taken None d = d
 with_taken (Some t) d = record d { compared = 1; bits = t.bits; fewest = t.least }
 

@@ -21,8 +21,8 @@ use Rattle.goqlanis_buffers.specs.declared.answers.Fault.{Fault}
 use Rattle.goqlanis_buffers.specs.declared.answers.Fault.TheVariants.{At, Other}
 use Rattle.goqlanis_buffers.specs.declared.answers.Refusal.{Refusal}
 use Rattle.goqlanis_buffers.specs.declared.answers.Refusal.TheVariants as refusals
-use Rattle.goqlanis_buffers.specs.declared.joining.Found.{Found}
-use Rattle.goqlanis_buffers.specs.declared.joining.Square.{Square}
+use Rattle.goqlanis_buffers.specs.declared.joining.DecodedPart.{DecodedPart}
+use Rattle.goqlanis_buffers.specs.declared.joining.SquareBytes.{SquareBytes}
 
 -- a part of data: what its header says, and its bytes
 pub record Share : Type 0 where
@@ -34,7 +34,7 @@ pub record Share : Type 0 where
 abbrev pub part_of : Part → Share
 part_of p = record { place = p.place; last = p.last; parity = p.parity; bytes = p.bytes.now }
 
-abbrev pub found_part : Found → Share
+abbrev pub found_part : DecodedPart → Share
 found_part f = record { place = f.place; last = f.last; parity = f.parity; bytes = f.bytes.items }
 
 -- the square decodes to this part and to nothing else: its first part is a structured append header
@@ -46,7 +46,7 @@ pub record IsPartOf (s : List Color) (p : Share) : Type 0 where
   pub wrong : List WrongCodeword
   pub read : IsPartsReading s version level mask p.bytes (Front (StructuredAppend p.place p.last p.parity) ∷ behind) wrong
 
-abbrev pub ArePartsOf : List Square → List Share → Type 0  -- squares decode to these parts, one by one
+abbrev pub ArePartsOf : List SquareBytes → List Share → Type 0  -- squares decode to these parts, one by one
 ArePartsOf squares shares = AllZip (λ s p. IsPartOf (colors_of s.modules.now) p) squares shares
 
 -- the square decodes to headers and segments, of which the first is not a structured append header
@@ -69,28 +69,28 @@ IsNoPart s refusals.NotSeveral = HasNoHeader s
 IsNoPart s other = ⊥
 
 -- the square at this index is the first that is not a part
-pub record IsFirstNoPart (squares : List Square) (place : ℕ) (refusal : Refusal) : Type 0 where
-  pub square : Square
+pub record IsFirstNoPart (squares : List SquareBytes) (place : ℕ) (refusal : Refusal) : Type 0 where
+  pub square : SquareBytes
   pub at : slice_get squares place ≡ Some square
   pub before : List Share
   pub parts : ArePartsOf (take place squares) before
   pub wrong : IsNoPart (colors_of square.modules.now) refusal
 
 -- the data of the parts that squares decode to
-pub record IsDataOf (squares : List Square) (bytes : List ℕ) : Type 0 where
+pub record IsDataOf (squares : List SquareBytes) (bytes : List ℕ) : Type 0 where
   pub parts : List Part
   pub read : ArePartsOf squares (map part_of parts)
   pub joined : IsJoined parts bytes
 
 -- such data at the start of a buffer, and its length
-pub record IsJoinedInto (squares : List Square) (old new : List ℕ) (count : ℕ) : Type 0 where
+pub record IsJoinedInto (squares : List SquareBytes) (old new : List ℕ) (count : ℕ) : Type 0 where
   pub bytes : List ℕ
   pub joined : IsDataOf squares bytes
   pub filled : IsFilled old new bytes
   pub counted : count ≡ length bytes
 
 -- why squares are not decoded as parts: one is none, or memory ran out
-abbrev pub HasNoPart : List Square → Fault → Type 0
+abbrev pub HasNoPart : List SquareBytes → Fault → Type 0
 HasNoPart squares (At place refusal) = IsFirstNoPart squares place refusal
 HasNoPart squares (Other refusal) = refusal ≡ refusals.OutOfMemory
 
@@ -102,14 +102,14 @@ join_fault join.Parity = Other refusals.Parity
 join_fault join.OutOfMemory = Other refusals.OutOfMemory
 
 -- the parts of squares are not all the parts of the same data
-abbrev pub AreNotJoined : List Square → Fault → Type 0
+abbrev pub AreNotJoined : List SquareBytes → Fault → Type 0
 AreNotJoined squares fault = (e : JoinError) × ((fault ≡ join_fault e) × ((parts : List Part) × (ArePartsOf squares (map part_of parts) × IsJoinRefused parts e)))
 
 -- why squares are not joined into a buffer of `room` bytes
-abbrev pub IsUnjoined : List Square → ℕ → Fault → Type 0
+abbrev pub IsUnjoined : List SquareBytes → ℕ → Fault → Type 0
 IsUnjoined squares room fault =
     HasNoPart squares fault ⊎ (AreNotJoined squares fault ⊎ ((fault ≡ Other refusals.SmallBuffer) × ((bytes : List ℕ) × (IsDataOf squares bytes × (room < length bytes)))))
 
 -- writes the data of squares, and returns its length
-abbrev pub WritesJoined : List Square → List ℕ → List ℕ → Result ℕ Fault → Type 0
+abbrev pub WritesJoined : List SquareBytes → List ℕ → List ℕ → Result ℕ Fault → Type 0
 WritesJoined squares old new result = Writes (IsJoinedInto squares old) (IsUnjoined squares (length old)) old new result

@@ -21,7 +21,7 @@ use Rattle.goqlanis_buffers.specs.declared.answers.Refusal.TheVariants as refusa
 use Rattle.goqlanis_buffers.specs.declared.scanning.Code.{Code}
 use Rattle.goqlanis_buffers.specs.declared.scanning.Part.{Part}
 use Rattle.goqlanis_buffers.specs.declared.scanning.Scan.{Scan}
-use Rattle.goqlanis_buffers.specs.declared.scanning.Report.{Report}
+use Rattle.goqlanis_buffers.specs.declared.scanning.ScanReport.{ScanReport}
 
 abbrev pub mode_kind : Mode → ℕ  -- the kind of a segment in a mode
 mode_kind Numeric = 0
@@ -56,7 +56,7 @@ abbrev pub AreCodesOf : List found.Scan → List Code → Type 0
 AreCodesOf scans codes = AllZip IsToldOf scans codes
 
 -- codes in the form that C gets: the codes, and the parts and the bytes of all, code after code
-pub record AreTold (scans : List found.Scan) (told : Report) : Type 0 where
+pub record AreTold (scans : List found.Scan) (told : ScanReport) : Type 0 where
   pub codes : AreCodesOf scans told.codes.items
   pub parts : told.parts.items ≡ flat_map parts_in scans
   pub bytes : told.bytes.items ≡ flat_map bytes_in scans
@@ -65,7 +65,7 @@ abbrev pub most : ℕ  -- the size of the largest picture, in bytes
 most = 67108864
 
 -- what C gets of a picture, for a struct of this size
-pub record IsToldIn (picture : List ℕ) (size : ℕ) (told : Report) : Type 0 where
+pub record IsToldIn (picture : List ℕ) (size : ℕ) (told : ScanReport) : Type 0 where
   pub sized : size ≡ 32
   pub limited : length picture ≤ most
   pub scans : List found.Scan
@@ -76,13 +76,13 @@ pub record IsToldIn (picture : List ℕ) (size : ℕ) (told : Report) : Type 0 w
   pub codes : AreTold scans told
 
 -- the codes, parts and bytes are at the start of buffers, which are otherwise unchanged
-pub record IsPut (told : Report) (codes new_codes : List Code) (parts new_parts : List Part) (bytes new_bytes : List ℕ) (scan : Scan) : Type 0 where
+pub record IsPut (told : ScanReport) (codes new_codes : List Code) (parts new_parts : List Part) (bytes new_bytes : List ℕ) (scan : Scan) : Type 0 where
   pub codes_filled : IsFilled codes new_codes told.codes.items
   pub parts_filled : IsFilled parts new_parts told.parts.items
   pub bytes_filled : IsFilled bytes new_bytes told.bytes.items
   pub counted : scan ≡ record { size = 32; codes = length told.codes.items; parts = length told.parts.items; length = length told.bytes.items }
 
-abbrev pub ExceedsRoom : Report → ℕ → ℕ → ℕ → Type 0  -- one of the buffers is too small
+abbrev pub ExceedsRoom : ScanReport → ℕ → ℕ → ℕ → Type 0  -- one of the buffers is too small
 ExceedsRoom told codes parts bytes = (codes < length told.codes.items) ⊎ ((parts < length told.parts.items) ⊎ (bytes < length told.bytes.items))
 
 abbrev pub square_refusal : square.Unread → Refusal
@@ -115,7 +115,7 @@ IsUnreadFor picture size refusal = IsPictureCause 32 (IsUnreadPicture picture) p
 
 -- the codes of a picture in buffers
 pub record IsScanned (picture : List ℕ) (size : ℕ) (codes new_codes : List Code) (parts new_parts : List Part) (bytes new_bytes : List ℕ) (scan : Scan) : Type 0 where
-  pub told : Report
+  pub told : ScanReport
   pub read : IsToldIn picture size told
   pub put : IsPut told codes new_codes parts new_parts bytes new_bytes scan
 
@@ -123,7 +123,7 @@ pub record IsScanned (picture : List ℕ) (size : ℕ) (codes new_codes : List C
 abbrev pub IsScanCause : List ℕ → ℕ → ℕ → ℕ → ℕ → Refusal → Type 0
 IsScanCause picture size codes parts bytes refusal =
     IsUnreadFor picture size refusal
-    ⊎ ((refusal ≡ refusals.SmallBuffer) × ((told : Report) × (IsToldIn picture size told × ExceedsRoom told codes parts bytes)))
+    ⊎ ((refusal ≡ refusals.SmallBuffer) × ((told : ScanReport) × (IsToldIn picture size told × ExceedsRoom told codes parts bytes)))
 
 -- a call decodes the codes in a picture, or fails for a cause and leaves the buffers unchanged
 pub record ScansPicture (picture : List ℕ) (size : ℕ) (codes new_codes : List Code) (parts new_parts : List Part) (bytes new_bytes : List ℕ) (result : Result Scan Refusal)

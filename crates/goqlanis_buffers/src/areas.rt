@@ -23,7 +23,7 @@ use std::alloc::Global;
 /// What an area takes of a symbol, and how much error correction it leaves.
 #[repr(C)]
 #[derive(Clone, Copy)]
-pub struct Taken {
+pub struct AreaUse {
     /// How many blocks the symbol has.
     pub blocks: usize,
     /// How many codewords of each block may be lost.
@@ -77,7 +77,7 @@ pub fn reserve_into(
     level: u32,
     rectangles: &[Rectangle],
     touched: &mut [usize],
-) -> Result<Taken, Refusal>
+) -> Result<AreaUse, Refusal>
     ensures { WritesReserve version level rectangles.now touched.old touched.new result }
 {
     let (version, level) = pair_named(version, level)?;
@@ -93,13 +93,13 @@ pub fn reserve_into(
 }
 
 // Converts a reserve, except the counts of its blocks.
-fn made_of(reserve: &Reserve) -> Taken
+fn made_of(reserve: &Reserve) -> AreaUse
     ensures { (version : Version) (level : EcLevel) (area : ℕ → ℕ → Bool)
         → IsReserve version level area reserve.now
         → IsTaken version level area reserve.now.touched.items result }
 {
     let least = reserve.least();
-    Taken {
+    AreaUse {
         blocks: reserve.touched.len(),
         allowed: reserve.allowed,
         worst: reserve.worst,

@@ -12,7 +12,7 @@ use crate::symbols::{colors_of, fill, put};
 use qrcode_check::correction::{Grade, grade_of};
 use qrcode_check::masks::Rank;
 use qrcode_check::modules::WrongModules;
-use qrcode_check::segments::Taken;
+use qrcode_check::segments::BitUse;
 use qrcode_check::{Check, Content, check_square};
 use qrcode_reader::version_of;
 use qrcode_scan::check_codes;
@@ -84,7 +84,7 @@ pub struct Checks {
 
 // The findings on each code, and the wrong codewords of all blocks, code after code.
 #[derive(Drop)]
-struct Report {
+struct CheckReport {
     checks: Vec<Checked>,
     wrong: Vec<usize>,
 }
@@ -122,7 +122,7 @@ pub fn check_into(
 }
 
 // Checks the codes in a picture.
-fn told_in(alloc: Global, picture: &[u8], size: u32) -> Result<Report, Refusal>
+fn told_in(alloc: Global, picture: &[u8], size: u32) -> Result<CheckReport, Refusal>
     ensures told { IfOk result (λ told.
         IsChecked picture.now size told.checks.items told.wrong.items) }
     ensures causes { IfErr result (IsUncheckedFor picture.now size) }
@@ -134,7 +134,7 @@ fn told_in(alloc: Global, picture: &[u8], size: u32) -> Result<Report, Refusal>
         return Err(Refusal::LargePicture);
     }
     let found = check_codes(alloc, picture)?;
-    Ok(Report {
+    Ok(CheckReport {
         checks: checks_in(alloc, &found.checks)?,
         wrong: wrong_in(alloc, &found.checks)?,
     })
@@ -215,7 +215,7 @@ fn told_content(content: Option<Content>) -> DataBits
         ..none
     };
     match content.taken {
-        Some(Taken { bits, least }) => DataBits {
+        Some(BitUse { bits, least }) => DataBits {
             compared: 1,
             bits,
             fewest: least,

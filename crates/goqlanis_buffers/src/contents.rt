@@ -17,7 +17,7 @@ use std::alloc::Global;
 /// A field.
 #[repr(C)]
 #[derive(Clone, Copy)]
-pub struct Item<'a> {
+pub struct Slot<'a> {
     /// The text in UTF-8, or nothing.
     pub bytes: &'a [u8],
 }
@@ -28,7 +28,7 @@ pub struct Item<'a> {
 /// Errors, the first that applies: `NoSuchContent`; at the first field with an error `NoSuchField`
 /// or `NotText`; at a field that the format rejects one of `FieldEmpty` to `FieldWord`;
 /// `SmallBuffer`; or `OutOfMemory`. After an error `out` is unchanged.
-pub fn write(alloc: Global, kind: u32, given: &[Item<'_>], out: &mut [u8]) -> Result<usize, Fault>
+pub fn write(alloc: Global, kind: u32, given: &[Slot<'_>], out: &mut [u8]) -> Result<usize, Fault>
     ensures { WritesContent kind given.now out.old out.new result }
 {
     let Some(kind) = kind_named(kind) else {
@@ -67,7 +67,7 @@ fn cause_refusal(cause: Cause) -> Refusal
 // Checks fields for a kind with `count` fields.
 //
 // Errors, at the first wrong field: `NoSuchField`, `NotText`.
-fn check(count: usize, given: &[Item<'_>]) -> Result<(), Fault>
+fn check(count: usize, given: &[Slot<'_>]) -> Result<(), Fault>
     ensures taken { OnOk result (AreTaken count given.now (length given.now)) }
     ensures refused { IfErr result (IsFirstWrong count given.now) }
 {
@@ -79,7 +79,7 @@ fn check(count: usize, given: &[Item<'_>]) -> Result<(), Fault>
 
 // Checks the field at an index, for a kind with `count` fields.
 #[tactic(auto, using(crate::proofs::Fields::text_test, crate::proofs::Fields::no_text_test))]
-fn check_field(count: usize, place: usize, field: &Item<'_>) -> Result<(), Fault>
+fn check_field(count: usize, place: usize, field: &Slot<'_>) -> Result<(), Fault>
     ensures { result ≡ passed (field_fault count place field.now) }
 {
     if place >= count {
@@ -93,7 +93,7 @@ fn check_field(count: usize, place: usize, field: &Item<'_>) -> Result<(), Fault
 
 // The text of fields that passed `check`.
 #[tactic(auto, unfolding(crate::specs::Contents::refusal_for))]
-fn payload(alloc: Global, kind: Kind, given: &[Item<'_>]) -> ContentResult<String>
+fn payload(alloc: Global, kind: Kind, given: &[Slot<'_>]) -> ContentResult<String>
     ensures reads { Answers (refusal_for kind given.now) result (IsReadAsFields kind
         (texts_of kind given.now)) }
     ensures value { IfOk result (λ text. string_bytes text
@@ -107,7 +107,7 @@ fn payload(alloc: Global, kind: Kind, given: &[Item<'_>]) -> ContentResult<Strin
 #[derive(Drop)]
 struct Placed<'g, 'a> {
     kind: Kind,
-    given: &'g [Item<'a>],
+    given: &'g [Slot<'a>],
 }
 
 impl FieldSource for Placed<'_, '_> {
@@ -119,7 +119,7 @@ impl FieldSource for Placed<'_, '_> {
 }
 
 // The text of the field at an index; empty if there is none, or it is not UTF-8.
-fn valid_at<'a>(given: &[Item<'a>], place: usize) -> &'a str
+fn valid_at<'a>(given: &[Slot<'a>], place: usize) -> &'a str
     ensures { result.now ≡ valid_text (text_at given.now place) }
 {
     match given.get(place) {

@@ -17,7 +17,7 @@ use std::alloc::Global;
 /// A GS1 element.
 #[repr(C)]
 #[derive(Clone, Copy)]
-pub struct Part<'a> {
+pub struct Gs1Bytes<'a> {
     /// The digits of its application identifier, without parentheses.
     pub identifier: &'a [u8],
     /// Its value, with the check digit if it has one.
@@ -29,7 +29,7 @@ pub struct Part<'a> {
 /// Errors, the first that applies: at the first element that is not UTF-8 `NotText`; at the first
 /// wrong one `FieldCharacter`, `FieldCheckDigits`, `FieldRange`, `NoSuchIdentifier` or
 /// `ElementLength`; `SmallBuffer`; or `OutOfMemory`. After an error `out` is unchanged.
-pub fn write_elements(alloc: Global, parts: &[Part<'_>], out: &mut [u8]) -> Result<usize, Fault>
+pub fn write_elements(alloc: Global, parts: &[Gs1Bytes<'_>], out: &mut [u8]) -> Result<usize, Fault>
     ensures { WritesElements parts.now out.old out.new result }
 {
     let elements = elements_of(alloc, parts)?;
@@ -50,7 +50,7 @@ pub fn write_elements(alloc: Global, parts: &[Part<'_>], out: &mut [u8]) -> Resu
 /// `OutOfMemory`. After an error `modules` is unchanged.
 pub fn encode_elements(
     alloc: Global,
-    parts: &[Part<'_>],
+    parts: &[Gs1Bytes<'_>],
     options: &Options,
     modules: &mut [u8],
 ) -> Result<Symbol, Fault>
@@ -85,7 +85,7 @@ fn element_refusal(cause: Cause) -> Refusal
 }
 
 // Borrows the elements as text. Errors: `NotText` at the first that is not UTF-8; or `OutOfMemory`.
-fn elements_of<'a>(alloc: Global, parts: &[Part<'a>]) -> Result<Vec<Element<'a>>, Fault>
+fn elements_of<'a>(alloc: Global, parts: &[Gs1Bytes<'a>]) -> Result<Vec<Element<'a>>, Fault>
     ensures value { IfOk result (λ elements. map item elements.items ≡ items_of parts.now) }
     ensures texts { OnOk result (AreTexts parts.now (length parts.now)) }
     ensures no_text { IfErr result (HasNoText parts.now) }
@@ -103,7 +103,7 @@ fn elements_of<'a>(alloc: Global, parts: &[Part<'a>]) -> Result<Vec<Element<'a>>
 }
 
 // Borrows an element as text; `None` if it is not UTF-8.
-fn element_of<'a>(part: &Part<'a>) -> Option<Element<'a>>
+fn element_of<'a>(part: &Gs1Bytes<'a>) -> Option<Element<'a>>
     ensures value { IfSome result (λ element. item element ≡ item_of part.now) }
     ensures text { OnSome result (IsText part.now) }
     ensures none { IfNone result (¬ IsText part.now) }

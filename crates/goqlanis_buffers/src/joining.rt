@@ -15,13 +15,13 @@ use std::alloc::{AllocError, Global};
 /// A square of modules: bytes, row by row, dark if not zero.
 #[repr(C)]
 #[derive(Clone, Copy)]
-pub struct Square<'a> {
+pub struct SquareBytes<'a> {
     pub modules: &'a [u8],
 }
 
 /// The part of the data that a square decodes to.
 #[derive(Drop)]
-pub struct Found {
+pub struct DecodedPart {
     pub place: u8,
     pub last: u8,
     pub parity: u8,
@@ -34,7 +34,7 @@ pub struct Found {
 /// Errors, the first that applies: at the first square that is not a part `NoSuchSide`, `NoFormat`,
 /// `Damaged`, `NotSpelled` or `NotSeveral`; at a part `Stranger`, `Missing` or `Twice`; `Parity`,
 /// `SmallBuffer`; or `OutOfMemory`. After an error `out` is unchanged.
-pub fn join_into(alloc: Global, squares: &[Square<'_>], out: &mut [u8]) -> Result<usize, Fault>
+pub fn join_into(alloc: Global, squares: &[SquareBytes<'_>], out: &mut [u8]) -> Result<usize, Fault>
     ensures { WritesJoined squares.now out.old out.new result }
 {
     let found = decode_squares(alloc, squares)?;
@@ -62,7 +62,7 @@ fn join_fault(error: JoinError) -> Fault
 }
 
 // Decodes each square. Errors: at the first that is not a part; or `OutOfMemory`.
-fn decode_squares(alloc: Global, squares: &[Square<'_>]) -> Result<Vec<Found>, Fault>
+fn decode_squares(alloc: Global, squares: &[SquareBytes<'_>]) -> Result<Vec<DecodedPart>, Fault>
     ensures read { IfOk result (λ found. ArePartsOf squares.now (map found_part found.items)) }
     ensures causes { IfErr result (HasNoPart squares.now) }
 {
@@ -82,7 +82,7 @@ fn decode_squares(alloc: Global, squares: &[Square<'_>]) -> Result<Vec<Found>, F
 
 // Decodes a square. Errors: why it is not a part, or `None` if memory runs out.
 #[tactic(auto, using(crate::proofs::Known::no_side))]
-fn decode_square(alloc: Global, modules: &[u8]) -> Result<Found, Option<Refusal>>
+fn decode_square(alloc: Global, modules: &[u8]) -> Result<DecodedPart, Option<Refusal>>
     ensures read { IfOk result (λ found. IsPartOf (colors_of modules.now) (found_part found)) }
     ensures causes { IfErr result (λ refusal.
         IfSome refusal (IsNoPart (colors_of modules.now))) }
@@ -110,7 +110,7 @@ fn decode_square(alloc: Global, modules: &[u8]) -> Result<Found, Option<Refusal>
                     parity,
                 },
             ),
-        ) => Ok(Found {
+        ) => Ok(DecodedPart {
             place: *place,
             last: *last,
             parity: *parity,
@@ -121,7 +121,7 @@ fn decode_square(alloc: Global, modules: &[u8]) -> Result<Found, Option<Refusal>
 }
 
 // The same parts, with borrowed bytes.
-fn borrowed_parts<'a>(alloc: Global, found: &'a [Found]) -> Result<Vec<Part<'a>>, AllocError>
+fn borrowed_parts<'a>(alloc: Global, found: &'a [DecodedPart]) -> Result<Vec<Part<'a>>, AllocError>
     ensures same { IfOk result (λ parts. map part_of parts.items ≡ map found_part found.now) }
 {
     let mut parts = Vec::new(alloc);

@@ -71,7 +71,7 @@ pub struct Part {
 
 /// What a picture decodes to: the codes, and the parts and bytes of all, code after code.
 #[derive(Drop)]
-pub struct Report {
+pub struct ScanReport {
     pub codes: Vec<Code>,
     pub parts: Vec<Part>,
     pub bytes: Vec<u8>,
@@ -120,7 +120,7 @@ pub fn scan_into(
 
 // Decodes the codes in a picture.
 #[tactic(auto, using(crate::proofs::Known::all_read))]
-fn codes_of(alloc: Global, picture: &[u8], size: u32) -> Result<Report, Refusal>
+fn codes_of(alloc: Global, picture: &[u8], size: u32) -> Result<ScanReport, Refusal>
     ensures told { IfOk result (IsToldIn picture.now size) }
     ensures causes { IfErr result (IsUnreadFor picture.now size) }
 {
@@ -131,7 +131,7 @@ fn codes_of(alloc: Global, picture: &[u8], size: u32) -> Result<Report, Refusal>
         return Err(Refusal::LargePicture);
     }
     let scans = read_codes(alloc, picture)?.scans;
-    Ok(Report {
+    Ok(ScanReport {
         codes: codes_in(alloc, &scans)?,
         parts: parts_in(alloc, &scans)?,
         bytes: bytes_in(alloc, &scans)?,

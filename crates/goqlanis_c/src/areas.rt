@@ -5,14 +5,14 @@ ghost use Rattle.goqlanis_buffers.specs.Calls.{IsReported, IsReportedAt};
 ghost use Rattle.goqlanis_buffers.specs.Damaging.{WritesDamage};
 
 use goqlanis_buffers::answers::{answer, answer_at};
-use goqlanis_buffers::areas::{Taken, Wish, cover, largest, reserve_into};
+use goqlanis_buffers::areas::{AreaUse, Wish, cover, largest, reserve_into};
 use goqlanis_buffers::damaging::{Promised, Wrong, damage};
 use qrcode_damage::areas::Rectangle;
 use std::alloc::Global;
 
 /// Reports what an area takes of a symbol of this version and level. Writes how many codewords of
 /// each block have modules in it to the start of `touched` (81 items are always enough), and the
-/// rest to `taken`.
+/// rest to `area_use`.
 ///
 /// Returns 0, or the number of the first `Refusal` that applies: `NoSuchLevel`, `NoSuchVersion`,
 /// `LevelNotInVersion`, `NoSuchArea`, `SmallBuffer`; or of `OutOfMemory`. After an error the
@@ -24,13 +24,13 @@ pub extern "C" fn goq_reserve(
     level: u32,
     rectangles: &[Rectangle],
     touched: &mut [usize],
-    taken: &mut Taken,
+    area_use: &mut AreaUse,
 ) -> u32
     ensures { IsReported (WritesReserve version level rectangles.now touched.old touched.new)
-        result taken.old taken.new }
+        result area_use.old area_use.new }
 {
     let written = reserve_into(alloc, version, level, rectangles, touched);
-    answer(written, taken)
+    answer(written, area_use)
 }
 
 /// Finds the largest rectangle in the middle of a symbol of this version and level that leaves what

@@ -9,8 +9,8 @@ ghost use Rattle.goqlanis_buffers.specs.Several.{WritesSeveral};
 
 use goqlanis_buffers::answers::{answer, answer_at};
 use goqlanis_buffers::charsets::encode_charset;
-use goqlanis_buffers::contents::{Item, write};
-use goqlanis_buffers::elements::{Part, encode_elements, write_elements};
+use goqlanis_buffers::contents::{Slot, write};
+use goqlanis_buffers::elements::{Gs1Bytes, encode_elements, write_elements};
 use goqlanis_buffers::options::{Options, encode_with};
 use goqlanis_buffers::segments::{Segment, encode_segments, smallest_version};
 use goqlanis_buffers::several::{Several, encode_several};
@@ -144,7 +144,7 @@ pub extern "C" fn goq_encode_several(
 #[unsafe(no_mangle)]
 pub extern "C" fn goq_encode_gs1(
     alloc: Global,
-    parts: &[Part<'_>],
+    parts: &[Gs1Bytes<'_>],
     options: &Options,
     modules: &mut [u8],
     symbol: &mut Symbol,
@@ -171,7 +171,7 @@ pub extern "C" fn goq_encode_gs1(
 #[unsafe(no_mangle)]
 pub extern "C" fn goq_gs1(
     alloc: Global,
-    parts: &[Part<'_>],
+    parts: &[Gs1Bytes<'_>],
     out: &mut [u8],
     count: &mut usize,
     place: &mut usize,
@@ -194,7 +194,7 @@ pub extern "C" fn goq_gs1(
 pub extern "C" fn goq_content(
     alloc: Global,
     kind: u32,
-    given: &[Item<'_>],
+    given: &[Slot<'_>],
     out: &mut [u8],
     count: &mut usize,
     place: &mut usize,

@@ -12,7 +12,7 @@ ghost use Rattle.goqlanis_buffers.specs.Texts.{piece_of, WritesDecoded, WritesTe
 
 use goqlanis_buffers::answers::{answer, answer_at};
 use goqlanis_buffers::checking::{Checked, Checks, check_into, check_square_into};
-use goqlanis_buffers::joining::{Square, join_into};
+use goqlanis_buffers::joining::{SquareBytes, join_into};
 use goqlanis_buffers::reading::{
     AnyReading, Reading, mask_of, read_any_into, read_into, read_text_into,
 };
@@ -192,7 +192,7 @@ pub extern "C" fn goq_missed(
 #[unsafe(no_mangle)]
 pub extern "C" fn goq_join(
     alloc: Global,
-    squares: &[Square<'_>],
+    squares: &[SquareBytes<'_>],
     out: &mut [u8],
     count: &mut usize,
     place: &mut usize,

@@ -3,11 +3,9 @@
 use crate::Done;
 use goqlanis_files::failure::Failure;
 use goqlanis_files::{refused, usage};
-use goqlanis_options::asked::{Job, Report};
+use goqlanis_options::asked::{Job, ReportForm};
 use goqlanis_options::charsets::{CharsetName, Coded, charset_named};
-use goqlanis_request::{
-    Choice, Content, Request, VersionName, refusal_text, symbol_among, symbol_in,
-};
+use goqlanis_request::{Choice, Data, Request, VersionName, refusal_text, symbol_among, symbol_in};
 use qrcode::QrCode;
 use qrcode::bits::Manner;
 use qrcode_charsets::sets::{CHARSETS, Charset};
@@ -42,11 +40,11 @@ pub(crate) fn text_code(
     let (code, set) = match symbol_among(alloc, request.choice, &sets, request.level, text) {
         Ok(made) => made,
         Err(error) => {
-            let content = Content::Text(&sets, text);
+            let content = Data::Text(&sets, text);
             return Err(Failure::Refused(refusal_text(alloc, request, content, error)?));
         }
     };
-    let utf8 = if asked.is_dry || asked.report != Report::Nothing {
+    let utf8 = if asked.is_dry || asked.report != ReportForm::Nothing {
         utf8_version(alloc, request, bytes)
     } else {
         None

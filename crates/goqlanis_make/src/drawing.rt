@@ -21,8 +21,8 @@ use goqlanis_options::asked::{Job, Target, Work};
 use goqlanis_options::charsets::Coded;
 use goqlanis_options::report::{Sizes, show_report, sizes_of};
 use goqlanis_request::{
-    Choice, Content, Extent, Request, Segment, drawing_of, manner_of, mask_refusal_text,
-    refusal_text, symbol_for_application, symbol_in, symbol_of, symbol_of_elements, unwritable,
+    Choice, Data, Extent, Request, Segment, drawing_of, manner_of, mask_refusal_text, refusal_text,
+    symbol_for_application, symbol_in, symbol_of, symbol_of_elements, unwritable,
 };
 use goqlanis_tables::pages::Pages;
 use qrcode::QrCode;
@@ -72,7 +72,7 @@ fn bytes_code(alloc: Global, asked: &Job<'_, '_>, bytes: &[u8]) -> Done<QrCode> 
     let (request, manner) = (&asked.request, manner(alloc, asked, bytes)?);
     match symbol_in(alloc, request.choice, manner, request.level, bytes) {
         Ok(code) => Ok(code),
-        Err(error) => refuse(refusal_text(alloc, request, Content::Bytes(manner, bytes), error)),
+        Err(error) => refuse(refusal_text(alloc, request, Data::Bytes(manner, bytes), error)),
     }
 }
 
@@ -183,7 +183,7 @@ fn segments_code(alloc: Global, asked: &Job<'_, '_>, words: &[&str]) -> Done<QrC
     let request = &asked.request;
     match symbol_of(alloc, request.choice, request.level, &segments) {
         Ok(code) => Ok(code),
-        Err(error) => refuse(refusal_text(alloc, request, Content::Segments(&segments), error)),
+        Err(error) => refuse(refusal_text(alloc, request, Data::Segments(&segments), error)),
     }
 }
 
@@ -223,7 +223,7 @@ fn elements_code(alloc: Global, request: &Request<'_>, text: &str) -> Done<QrCod
             refuse(read.refusal(alloc, index, cause))
         }
         Err(SymbolError::Symbol(error)) => {
-            refuse(refusal_text(alloc, request, Content::Elements(&elements), error))
+            refuse(refusal_text(alloc, request, Data::Elements(&elements), error))
         }
         Err(SymbolError::Elements(_)) => Err(Failure::OutOfMemory),
     }
@@ -254,7 +254,7 @@ fn application_code(
     match symbol_for_application(alloc, request.choice, request.level, application, bytes) {
         Ok(code) => Ok(code),
         Err(error) => {
-            let content = Content::Application(application, bytes);
+            let content = Data::Application(application, bytes);
             refuse(refusal_text(alloc, request, content, error))
         }
     }

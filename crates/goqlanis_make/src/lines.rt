@@ -13,7 +13,7 @@ use goqlanis_tables::fields::Line;
 use goqlanis_tables::inputs::next_line;
 use goqlanis_tables::names::{Template, check_made, common_form};
 use goqlanis_tables::pages::Pages;
-use goqlanis_tables::rows::{Row, is_loose, loose};
+use goqlanis_tables::rows::{LineFields, is_loose, loose};
 use goqlanis_tables::tables::Table;
 use std::collections::BTreeSet;
 use std::fs;
@@ -165,7 +165,7 @@ fn draw_data(
 ) -> Done<Drawing> {
     let columns = &table.columns;
     if let Work::Payload(fields) = asked.work {
-        let row = Row::of(rt.alloc(), columns, line, &fields)?;
+        let row = LineFields::of(rt.alloc(), columns, line, &fields)?;
         if let Some(field) = loose(rt.alloc(), columns, line)? {
             let label = columns.label(rt.alloc(), field)?;
             doubted!(rt, asked.doubts;

@@ -98,7 +98,7 @@ impl Work<'_, '_> {
 
 /// What is reported of a code.
 #[derive(Clone, Copy, PartialEq, Eq)]
-pub enum Report {
+pub enum ReportForm {
     /// Only warnings.
     Nothing,
     /// Lines of text.
@@ -125,7 +125,7 @@ pub struct Job<'a, 'w> {
     pub target: Target<'a>,
     /// What is in the middle of a code, if anything.
     pub logo: Option<AskedLogo<'a>>,
-    pub report: Report,
+    pub report: ReportForm,
     /// Whether the code is only reported, and not drawn.
     pub is_dry: bool,
     pub doubts: Doubts<'a>,
@@ -217,13 +217,13 @@ pub fn is_given(given: &ArgMatches<'_>, name: &str) -> bool {
 }
 
 /// Returns what is reported.
-pub(crate) fn report_of(given: &ArgMatches<'_>) -> Report {
+pub(crate) fn report_of(given: &ArgMatches<'_>) -> ReportForm {
     if given.get_flag("json") {
-        Report::Json
+        ReportForm::Json
     } else if given.get_flag("verbose") {
-        Report::Text
+        ReportForm::Text
     } else {
-        Report::Nothing
+        ReportForm::Nothing
     }
 }
 

@@ -1,6 +1,6 @@
 //! The options of tasks that decode pictures.
 
-use crate::asked::{Report, report_of};
+use crate::asked::{ReportForm, report_of};
 use crate::targets::is_same_file;
 use clap::ArgMatches;
 use goqlanis_files::failure::Failure;
@@ -13,7 +13,7 @@ pub struct Pictures<'a, 'w> {
     pub names: Option<&'a [&'w str]>,
     /// The file for the data; standard output without it, and for -.
     pub output: Option<&'a str>,
-    pub report: Report,
+    pub report: ReportForm,
     /// Whether there are several, so that what is written names them.
     pub is_many: bool,
 }

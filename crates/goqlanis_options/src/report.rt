@@ -1,6 +1,6 @@
 //! The report on a code: `--verbose`, `--json` and `--dry-run`.
 
-use crate::asked::{Job, Report, Target};
+use crate::asked::{Job, ReportForm, Target};
 use crate::charsets::{CharsetName, Coded};
 use crate::json::push_file;
 use crate::sizes::pixels_per_inch;
@@ -41,10 +41,10 @@ pub fn show_report(
     let sizes = sizes_of(&asked.request, code);
     warn_of_parts(rt, asked, code.version())?;
     warn_of_sizes(rt, asked, sizes)?;
-    if asked.report == Report::Nothing && !asked.is_dry {
+    if asked.report == ReportForm::Nothing && !asked.is_dry {
         return Ok(());
     }
-    let is_json = asked.report == Report::Json;
+    let is_json = asked.report == ReportForm::Json;
     let text = String::from_str(rt.alloc(), if is_json { "{" } else { "" })?;
     let mut facts = Facts { text, is_json };
     facts.push_place(asked)?;

@@ -5,7 +5,7 @@ use goqlanis_options::warnings::Decimal;
 use goqlanis_request::VersionName;
 use qrcode_check::correction::grade_of;
 use qrcode_check::modules::WrongModules;
-use qrcode_check::segments::Taken;
+use qrcode_check::segments::BitUse;
 use qrcode_check::{Check, Content};
 use std::alloc::{AllocError, Global};
 
@@ -139,9 +139,9 @@ fn push_content(
 }
 
 // Appends how many bits the data takes, and how many would do.
-fn push_taken(text: &mut String, taken: Option<Taken>, is_json: bool) -> Result<(), AllocError> {
+fn push_taken(text: &mut String, taken: Option<BitUse>, is_json: bool) -> Result<(), AllocError> {
     match taken {
-        Some(Taken { bits, least }) => {
+        Some(BitUse { bits, least }) => {
             let more = bits.saturating_sub(least);
             push_either!(text, is_json;
                 "\"segments\": true, \"bits\": {bits}, \"fewest_bits\": {least}",

@@ -2,7 +2,7 @@
 
 use crate::Done;
 use crate::checking::numbers;
-use crate::pictures::Found;
+use crate::pictures::FoundCodes;
 use goqlanis_files::failure::Failure;
 use goqlanis_files::refused;
 use goqlanis_files::streams::write_data;
@@ -20,7 +20,7 @@ pub fn join_pictures(rt: &HostRuntime, pictures: &Pictures<'_, '_>) -> Done<Exit
     let names = pictures.names.unwrap_or(STANDARD_INPUT);
     let output = pictures.output;
     let mut sources = Vec::new(rt.alloc());
-    let mut found = Found::nothing(rt.alloc(), false);
+    let mut found = FoundCodes::nothing(rt.alloc(), false);
     for name in names {
         if !found.push_file(rt, name)? {
             return Ok(ExitCode::FAILURE);

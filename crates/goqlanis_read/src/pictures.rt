@@ -16,7 +16,7 @@ const MOST_SURE: usize = 64;
 
 /// What is found in pictures, in order.
 #[derive(Drop)]
-pub(crate) struct Found {
+pub(crate) struct FoundCodes {
     // Whether codes are checked, not only decoded.
     is_checked: bool,
     /// The decoded codes, unless they are checked.
@@ -25,10 +25,10 @@ pub(crate) struct Found {
     pub checks: Vec<Check>,
 }
 
-impl Found {
+impl FoundCodes {
     /// Returns nothing found yet; codes will be checked if `is_checked`.
-    pub(crate) fn nothing(alloc: Global, is_checked: bool) -> Found {
-        Found {
+    pub(crate) fn nothing(alloc: Global, is_checked: bool) -> FoundCodes {
+        FoundCodes {
             is_checked,
             scans: Vec::new(alloc),
             checks: Vec::new(alloc),

@@ -1,11 +1,11 @@
 //! `goqlanis read` and `check`: reports on the codes in pictures.
 
 use crate::Done;
-use crate::pictures::{Found, reported};
+use crate::pictures::{FoundCodes, reported};
 use crate::reports::{other_set, report};
 use goqlanis_files::streams::{shown, write_data};
 use goqlanis_files::warning;
-use goqlanis_options::asked::Report;
+use goqlanis_options::asked::ReportForm;
 use goqlanis_options::pictures::{Pictures, STANDARD_INPUT};
 use qrcode::types::Version;
 use qrcode_scan::{Scan, shown_text};
@@ -25,7 +25,7 @@ pub fn check(rt: &HostRuntime, pictures: &Pictures<'_, '_>) -> Done<ExitCode> {
 
 // Writes what is decoded in pictures, or the reports on their codes if they are checked.
 fn write_found(rt: &HostRuntime, pictures: &Pictures<'_, '_>, is_checked: bool) -> Done<ExitCode> {
-    let is_json = pictures.report == Report::Json;
+    let is_json = pictures.report == ReportForm::Json;
     let mut is_whole = true;
     let mut data = Vec::new(rt.alloc());
     for name in pictures.names.unwrap_or(STANDARD_INPUT) {
@@ -50,10 +50,10 @@ fn push_found(
     data: &mut Vec<u8>,
 ) -> Done<bool> {
     let file = if pictures.is_many { name } else { "" };
-    let is_json = pictures.report == Report::Json;
-    let mut found = Found::nothing(rt.alloc(), is_checked);
+    let is_json = pictures.report == ReportForm::Json;
+    let mut found = FoundCodes::nothing(rt.alloc(), is_checked);
     let is_whole = found.push_file(rt, name)?;
-    if is_checked || pictures.report != Report::Nothing {
+    if is_checked || pictures.report != ReportForm::Nothing {
         let text = report(rt.alloc(), &found, file, is_json, data.is_empty())?;
         if is_checked || is_json {
             data.extend_from_slice(text.as_bytes())?;

@@ -1,7 +1,7 @@
 //! Reports on decoded codes, as text or JSON.
 
 use crate::checking::push_check;
-use crate::pictures::Found;
+use crate::pictures::FoundCodes;
 use goqlanis_files::streams::shown;
 use goqlanis_options::charsets::eci_name;
 use goqlanis_options::json::{self, push_string};
@@ -49,7 +49,7 @@ pub(crate) fn other_set(parts: &[Part]) -> Option<CharacterSet> {
 /// Errors: only `AllocError`.
 pub(crate) fn report(
     alloc: Global,
-    found: &Found,
+    found: &FoundCodes,
     file: &str,
     is_json: bool,
     is_first: bool,

@@ -17,6 +17,6 @@ pub mod shrinking;
 pub use charsets::symbol_among;
 pub use drawing::{dots, drawing_of, drawn, quiet_zone, scale, symbol_in};
 pub use elements::{symbol_for_application, symbol_of_elements};
-pub use refusal::{Content, Grouped, VersionName, mask_refusal_text, refusal_text};
+pub use refusal::{Data, Grouped, VersionName, mask_refusal_text, refusal_text};
 pub use request::{Choice, Extent, Length, Request, manner_of};
 pub use segments::{Segment, push_data, symbol_of, unwritable};

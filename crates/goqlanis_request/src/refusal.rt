@@ -15,7 +15,7 @@ use std::fmt;
 
 /// What a symbol is to hold.
 #[derive(Clone, Copy)]
-pub enum Content<'a> {
+pub enum Data<'a> {
     /// Bytes, written in this manner.
     Bytes(Manner, &'a [u8]),
     /// A text, in one of these character sets.
@@ -28,18 +28,18 @@ pub enum Content<'a> {
     Application(u8, &'a [u8]),
 }
 
-impl Content<'_> {
+impl Data<'_> {
     // Returns the version of its symbol, if there is one.
     fn version_in(self, alloc: Global, choice: Choice, level: EcLevel) -> Option<Version> {
         let code = match self {
-            Content::Bytes(manner, bytes) => symbol_in(alloc, choice, manner, level, bytes).ok(),
-            Content::Text(sets, text) => {
+            Data::Bytes(manner, bytes) => symbol_in(alloc, choice, manner, level, bytes).ok(),
+            Data::Text(sets, text) => {
                 let (code, _) = symbol_among(alloc, choice, sets, level, text).ok()?;
                 Some(code)
             }
-            Content::Segments(segments) => symbol_of(alloc, choice, level, segments).ok(),
-            Content::Elements(elements) => symbol_of_elements(alloc, choice, level, elements).ok(),
-            Content::Application(indicator, bytes) => {
+            Data::Segments(segments) => symbol_of(alloc, choice, level, segments).ok(),
+            Data::Elements(elements) => symbol_of_elements(alloc, choice, level, elements).ok(),
+            Data::Application(indicator, bytes) => {
                 symbol_for_application(alloc, choice, level, indicator, bytes).ok()
             }
         };
@@ -49,14 +49,14 @@ impl Content<'_> {
     // Returns what it needs that Micro QR lacks, if anything.
     fn beyond_micro(self) -> Option<&'static str> {
         match self {
-            Content::Bytes(Manner::MarkedText, _) => Some("ECI: leave out --eci, or"),
-            Content::Text([_], _) => Some("ECI;"),
-            Content::Segments(segments) => segments
+            Data::Bytes(Manner::MarkedText, _) => Some("ECI: leave out --eci, or"),
+            Data::Text([_], _) => Some("ECI;"),
+            Data::Segments(segments) => segments
                 .iter()
                 .any(|segment| matches!(segment, Segment::CharacterSet(_)))
                 .then_some("ECI;"),
-            Content::Elements(_) | Content::Application(..) => Some("FNC1, like all of Micro QR;"),
-            Content::Bytes(..) | Content::Text(..) => None,
+            Data::Elements(_) | Data::Application(..) => Some("FNC1, like all of Micro QR;"),
+            Data::Bytes(..) | Data::Text(..) => None,
         }
     }
 }
@@ -67,7 +67,7 @@ impl Content<'_> {
 pub fn refusal_text(
     alloc: Global,
     request: &Request<'_>,
-    content: Content<'_>,
+    content: Data<'_>,
     error: QrError,
 ) -> Result<String, AllocError> {
     if error == QrError::OutOfMemory {
@@ -88,10 +88,10 @@ pub fn refusal_text(
         }
     }
     match (error, content, request.choice) {
-        (QrError::DataTooLong, ..) | (_, Content::Text(..), _) => {
+        (QrError::DataTooLong, ..) | (_, Data::Text(..), _) => {
             too_long_text(alloc, request, content)
         }
-        (QrError::UnsupportedCharacterSet, Content::Segments(_), Choice::At(version)) => {
+        (QrError::UnsupportedCharacterSet, Data::Segments(_), Choice::At(version)) => {
             let name = VersionName(version);
             format!(in alloc;
                 "version {name} lacks a mode of the segments; M3, M4 and 1 to 40 have all"
@@ -129,18 +129,18 @@ pub fn mask_refusal_text(alloc: Global, error: QrError) -> Result<String, AllocE
 fn too_long_text(
     alloc: Global,
     request: &Request<'_>,
-    content: Content<'_>,
+    content: Data<'_>,
 ) -> Result<String, AllocError> {
     let (choice, level) = (request.choice, request.level);
     let mut text = String::new(alloc);
     let what = match content {
-        Content::Text(..) => "characters",
-        Content::Segments(_) => "segments",
-        Content::Elements(_) => "elements",
-        Content::Bytes(..) | Content::Application(..) => "bytes",
+        Data::Text(..) => "characters",
+        Data::Segments(_) => "segments",
+        Data::Elements(_) => "elements",
+        Data::Bytes(..) | Data::Application(..) => "bytes",
     };
     match (content, choice) {
-        (Content::Bytes(manner, bytes), _) => {
+        (Data::Bytes(manner, bytes), _) => {
             write!(text, "{} bytes at ", Grouped(bytes.len()))?;
             if let Choice::At(version) = choice {
                 write!(text, "version {} and ", VersionName(version))?;
@@ -171,9 +171,9 @@ fn too_long_text(
     let mut lower = [EcLevel::Q, EcLevel::M, EcLevel::L].iter();
     if let Some(lower) = lower.find(|level| content.version_in(alloc, any, **level).is_some()) {
         write!(text, "; level {lower:?} holds them")?;
-    } else if let Content::Text(..) = content {
+    } else if let Data::Text(..) = content {
         text.push_str("; without --charset, goqlanis split splits them over several codes")?;
-    } else if let Content::Bytes(..) = content {
+    } else if let Data::Bytes(..) = content {
         text.push_str("; goqlanis split splits them over several codes")?;
     }
     Ok(text)

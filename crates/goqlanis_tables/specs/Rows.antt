@@ -4,7 +4,7 @@ use Rattle.std.specs.declared.alloc.Global.{Global}
 use Rattle.std.specs.declared.string.String.{String}
 use Rattle.qrcode_contents.specs.declared.fields.errors.Field.{Field}
 use Rattle.goqlanis_options.specs.Fields.{name_of}
-use Rattle.goqlanis_tables.specs.declared.rows.Row.{Row}
+use Rattle.goqlanis_tables.specs.declared.rows.LineFields.{LineFields}
 
 abbrev pub pair_of : String Global × String Global → List ℕ × List ℕ  -- a name and its text
 pair_of pair = (string_bytes pair.0, string_bytes pair.1)
@@ -13,5 +13,5 @@ abbrev pub text_named : List (List ℕ × List ℕ) → List ℕ → List ℕ  -
 text_named [] name = []
 text_named (pair ∷ pairs) name = if bytes_eq pair.0 name then pair.1 else text_named pairs name
 
-abbrev pub texts_of : Row → Field → List ℕ  -- the text of each field
+abbrev pub texts_of : LineFields → Field → List ℕ  -- the text of each field
 texts_of row field = text_named (map pair_of row.pairs.items) (name_of field)

@@ -18,7 +18,7 @@ const MOST_IN_NAME: usize = 255;
 
 // A part of a path: a text as it stands, or a placeholder.
 #[derive(Clone, Copy)]
-enum Part<'a> {
+enum PathPart<'a> {
     Text(&'a str),
     // The number of the line, with zeros before it up to this width: `{}`, `{:04}`.
     Number(usize),
@@ -34,7 +34,7 @@ pub struct Template<'a> {
     path: &'a str,
     // Whether it has placeholders. If not, the number stands before the file extension.
     has_places: bool,
-    parts: Vec<Part<'a>>,
+    parts: Vec<PathPart<'a>>,
 }
 
 impl<'a> Template<'a> {
@@ -79,7 +79,7 @@ impl<'a> Template<'a> {
     // Parses a path; refuses placeholders that are unknown.
     fn of(alloc: Global, path: &'a str, columns: &Columns) -> Done<Template<'a>> {
         let mut parts = parts_of(alloc, path, columns)?;
-        let has_places = parts.iter().any(|part| !matches!(part, Part::Text(_)));
+        let has_places = parts.iter().any(|part| !matches!(part, PathPart::Text(_)));
         if !has_places {
             parts = numbered(alloc, path)?;
         }
@@ -94,7 +94,7 @@ impl<'a> Template<'a> {
     pub fn has_text(&self) -> bool {
         self.parts
             .iter()
-            .any(|part| matches!(part, Part::Line | Part::Field(_)))
+            .any(|part| matches!(part, PathPart::Line | PathPart::Field(_)))
     }
 
     /// Returns the file name for a line.
@@ -106,10 +106,10 @@ impl<'a> Template<'a> {
         for part in &self.parts {
             let number = line.number;
             match *part {
-                Part::Text(text) => name.push_str(text)?,
-                Part::Number(width) => write!(name, "{number:0width$}")?,
-                Part::Line => push_clean(&mut name, line.text.as_str())?,
-                Part::Field(number) => push_clean(&mut name, line.field(alloc, number)?)?,
+                PathPart::Text(text) => name.push_str(text)?,
+                PathPart::Number(width) => write!(name, "{number:0width$}")?,
+                PathPart::Line => push_clean(&mut name, line.text.as_str())?,
+                PathPart::Field(number) => push_clean(&mut name, line.field(alloc, number)?)?,
             }
         }
         if self.has_places {
@@ -120,47 +120,47 @@ impl<'a> Template<'a> {
 }
 
 // Returns the parts of a path; refuses placeholders that are unknown.
-fn parts_of<'a>(alloc: Global, path: &'a str, columns: &Columns) -> Done<Vec<Part<'a>>> {
+fn parts_of<'a>(alloc: Global, path: &'a str, columns: &Columns) -> Done<Vec<PathPart<'a>>> {
     let mut parts = Vec::new(alloc);
     let mut pieces = path.split('{');
-    parts.push(Part::Text(pieces.next().unwrap_or("")))?;
+    parts.push(PathPart::Text(pieces.next().unwrap_or("")))?;
     for piece in pieces {
         let (part, rest) = match (place_of(piece, columns), piece.split_once('}')) {
             (Some(found), _) => found,
             (None, Some((word, _))) => return unknown(alloc, word, columns),
-            (None, None) => (Part::Text("{"), piece),
+            (None, None) => (PathPart::Text("{"), piece),
         };
         parts.push(part)?;
-        parts.push(Part::Text(rest))?;
+        parts.push(PathPart::Text(rest))?;
     }
     Ok(parts)
 }
 
 // Returns the parts of a path in which the number stands before the file extension.
-fn numbered(alloc: Global, path: &str) -> Result<Vec<Part<'_>>, AllocError> {
+fn numbered(alloc: Global, path: &str) -> Result<Vec<PathPart<'_>>, AllocError> {
     let (stem, dot, ending) = match path.rsplit_once('.') {
         Some((stem, ending)) if !ending.contains('/') => (stem, ".", ending),
         _ => (path, "", ""),
     };
     let parts = [
-        Part::Text(stem),
-        Part::Text("-"),
-        Part::Number(6),
-        Part::Text(dot),
-        Part::Text(ending),
+        PathPart::Text(stem),
+        PathPart::Text("-"),
+        PathPart::Number(6),
+        PathPart::Text(dot),
+        PathPart::Text(ending),
     ];
     Vec::from_slice(alloc, &parts)
 }
 
 // Parses the placeholder whose `{` precedes `piece`; returns it and the rest after its `}`.
-fn place_of<'a>(piece: &'a str, columns: &Columns) -> Option<(Part<'a>, &'a str)> {
+fn place_of<'a>(piece: &'a str, columns: &Columns) -> Option<(PathPart<'a>, &'a str)> {
     let (word, rest) = piece.split_once('}')?;
     let place = match (word, word.parse::<usize>(), columns.number_of(word)) {
-        ("", _, _) => Part::Number(0),
-        (_, _, Some(number)) => Part::Field(number),
-        ("text", _, _) => Part::Line,
-        (_, Ok(number), _) if number > 0 && !word.starts_with('+') => Part::Field(number),
-        _ => Part::Number(word.strip_prefix(":0")?.parse::<u8>().ok()? as usize),
+        ("", _, _) => PathPart::Number(0),
+        (_, _, Some(number)) => PathPart::Field(number),
+        ("text", _, _) => PathPart::Line,
+        (_, Ok(number), _) if number > 0 && !word.starts_with('+') => PathPart::Field(number),
+        _ => PathPart::Number(word.strip_prefix(":0")?.parse::<u8>().ok()? as usize),
     };
     Some((place, rest))
 }

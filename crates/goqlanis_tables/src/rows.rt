@@ -17,11 +17,11 @@ use std::alloc::Global;
 
 /// The fields of a payload in a line: names of options with their texts.
 #[derive(Drop)]
-pub struct Row {
+pub struct LineFields {
     pairs: Vec<(String, String)>,
 }
 
-impl FieldSource for Row {
+impl FieldSource for LineFields {
     ghost fields = { λ row. texts_of row };
 
     fn text(&self, field: Field) -> &str {
@@ -41,7 +41,7 @@ fn text_named<'a>(pairs: &'a [(String, String)], name: &str) -> &'a str
     ""
 }
 
-impl Row {
+impl LineFields {
     /// Returns the fields of a line: those of its columns, and the others as `options` give them.
     ///
     /// Errors: `Refused` if the line is not UTF-8, has fewer fields than columns, or an empty one that
@@ -51,7 +51,7 @@ impl Row {
         columns: &Columns,
         line: &Line<'_>,
         options: &G,
-    ) -> Done<Row> {
+    ) -> Done<LineFields> {
         utf8(alloc, line.bytes)?;
         let mut pairs = Vec::new(alloc);
         // (An open network has no password.)
@@ -76,7 +76,7 @@ impl Row {
             let name = String::from_str(alloc, name)?;
             pairs.push((name, String::from_str(alloc, text)?))?;
         }
-        Ok(Row { pairs })
+        Ok(LineFields { pairs })
     }
 }
 

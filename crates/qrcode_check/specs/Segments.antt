@@ -13,7 +13,7 @@ use Rattle.qrcode_bits.specs.declared.optimize.mode_sets.Modes.{Modes}
 use Rattle.qrcode_reader.specs.declared.spell.headers.Header.TheVariants.{Eci, Fnc1First, Fnc1Second, StructuredAppend}
 use Rattle.qrcode_reader.specs.declared.spell.parts.Part.{Part}
 use Rattle.qrcode_reader.specs.declared.spell.parts.Part.TheVariants.{Front, Bytes}
-use Rattle.qrcode_check.specs.declared.segments.Taken.{Taken}
+use Rattle.qrcode_check.specs.declared.segments.BitUse.{BitUse}
 
 abbrev pub part_bits : Version → Part → ℕ  -- the bits of a segment; 0 for a header
 part_bits v (Front h) = 0
@@ -58,7 +58,7 @@ abbrev pub IsLeastLengthIn : Modes → Version → List ℕ → ℕ → Type 0
 IsLeastLengthIn set v bytes n = (segments : List Segment) × (IsLeastCutIn set v bytes segments × (n ≡ total_cost v segments))
 
 -- the bits of the segments, if only such headers come before them, and those of a shortest division of their bytes
-pub record AreTaken (v : Version) (bytes : List ℕ) (parts : List Part) (t : Taken) : Type 0 where
+pub record AreTaken (v : Version) (bytes : List ℕ) (parts : List Part) (t : BitUse) : Type 0 where
   pub comparable : are_comparable parts ≡ true
   pub bits : t.bits ≡ taken v parts
   pub least : IsLeastLengthIn (modes_of parts) v bytes t.least

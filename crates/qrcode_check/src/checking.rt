@@ -15,7 +15,7 @@ use crate::forms::reading;
 use crate::guesses::{Guesses, guesses_in};
 use crate::masks::{Penalty, Rank, place_of, rank_by};
 use crate::modules::{WrongModules, wrong_modules};
-use crate::segments::{Taken, bits_taken};
+use crate::segments::{BitUse, bits_taken};
 use qrcode_layout::masks::MaskPattern;
 use qrcode_reader::spell::{Unspelled, pieces};
 use qrcode_reader::{Position, Unread, read_bits, seen, version_of};
@@ -28,7 +28,7 @@ use std::alloc::{AllocError, Global};
 pub struct Content {
     /// The bits of the segments, and those of a shortest division of their bytes; `None` if a
     /// header follows a segment, or one is FNC1.
-    pub taken: Option<Taken>,
+    pub taken: Option<BitUse>,
     /// Wrong bits after the segments.
     pub ending: Ending,
     /// Segments whose character set a reader has to guess.

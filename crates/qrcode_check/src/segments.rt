@@ -16,7 +16,7 @@ use std::alloc::{AllocError, Global};
 
 /// How many bits the segments take.
 #[derive(Debug, PartialEq, Eq, Copy, Clone)]
-pub struct Taken {
+pub struct BitUse {
     /// The bits of the segments, with mode indicators and length fields.
     pub bits: usize,
     /// The bits of a shortest division of their bytes into segments.
@@ -147,7 +147,7 @@ pub fn bits_taken(
     version: Version,
     parts: &[Part],
     bytes: &[u8],
-) -> Result<Option<Taken>, AllocError>
+) -> Result<Option<BitUse>, AllocError>
     requires valid { IsTrue (is_valid version) }
     requires length { length bytes.now ≤ 100000 }
     requires few { length parts.now ≤ 100000 }
@@ -160,7 +160,7 @@ pub fn bits_taken(
         return Ok(None);
     }
     match least_bits(alloc, version, bytes, modes_of(parts))? {
-        Some(least) => Ok(Some(Taken {
+        Some(least) => Ok(Some(BitUse {
             bits: taken_by(version, parts),
             least,
         })),

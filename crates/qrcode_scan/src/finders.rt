@@ -36,7 +36,7 @@ pub(crate) struct Finders {
 // A row or column of pixels: the index of its first pixel, the step from one pixel to the next, and
 // how many there are.
 #[derive(Clone, Copy)]
-pub(crate) struct Line {
+pub(crate) struct Lane {
     first: usize,
     step: usize,
     pub(crate) length: usize,
@@ -44,12 +44,12 @@ pub(crate) struct Line {
 }
 
 // Returns row `y` of the pixels.
-pub(crate) fn row_of(pixels: &Pixels, y: usize) -> Line
+pub(crate) fn row_of(pixels: &Pixels, y: usize) -> Lane
     requires { y ≤ 65535 }
     ensures { (result.length ≡ pixels.now.across) × (result.first < 2 ^ 32) }
 {
     let length = pixels.sides().0;
-    Line {
+    Lane {
         first: y * length,
         step: 1,
         length,
@@ -57,12 +57,12 @@ pub(crate) fn row_of(pixels: &Pixels, y: usize) -> Line
 }
 
 // Returns column `x` of the pixels.
-pub(crate) fn column_of(pixels: &Pixels, x: usize) -> Line
+pub(crate) fn column_of(pixels: &Pixels, x: usize) -> Lane
     requires { x ≤ 65535 }
     ensures { (result.length ≡ pixels.now.down) × (result.first < 2 ^ 32) }
 {
     let (step, length) = pixels.sides();
-    Line {
+    Lane {
         first: x,
         step,
         length,
@@ -217,7 +217,7 @@ fn diagonal_of(pixels: &Pixels, finder: Finder, is_left: bool) -> Option<usize>
         (x, across - x)
     };
     let back = reach.min(before).min(y);
-    let line = Line {
+    let line = Lane {
         first: (y - back) * across + if is_left { x + back } else { x - back },
         step: if is_left { across - 1 } else { across + 1 },
         length: back + reach.min(behind).min(down - y),
@@ -309,14 +309,14 @@ pub(crate) fn centre_of(centre: usize, seven: usize, number: usize) -> usize
 
 // Returns the start and end of the finder pattern whose middle contains `place`. Looks at no more
 // than `reach` pixels before and after it, so that time is linear.
-fn finder_through(pixels: &Pixels, line: Line, place: usize, reach: usize) -> Option<(usize, usize)>
+fn finder_through(pixels: &Pixels, line: Lane, place: usize, reach: usize) -> Option<(usize, usize)>
     requires inside { (place ≤ line.length) × (line.first < 2 ^ 32) }
     requires reach { reach ≤ 131070 }
     ensures { IfSome result (λ ends. (ends.0 ≤ ends.1) × (ends.1 ≤ line.length)) }
 {
     let from = place - reach.min(place);
     let length = (place + reach).min(line.length) - from;
-    let near = Line {
+    let near = Lane {
         first: line.first + from * line.step,
         step: line.step,
         length,
@@ -329,7 +329,7 @@ fn finder_through(pixels: &Pixels, line: Line, place: usize, reach: usize) -> Op
 }
 
 // Returns the start of the finder pattern that ends before `end`, if one does.
-fn finder_before(pixels: &Pixels, line: Line, end: usize) -> Option<usize>
+fn finder_before(pixels: &Pixels, line: Lane, end: usize) -> Option<usize>
     requires { end ≤ line.length }
     ensures { IfSome result (λ start. start ≤ end) }
 {
@@ -364,7 +364,7 @@ fn is_middle(run: usize, total: usize) -> bool
 }
 
 // Returns the end of the run of dark (or light) pixels that begins at `start`.
-pub(crate) fn run_end(pixels: &Pixels, line: Line, start: usize, dark: bool) -> usize
+pub(crate) fn run_end(pixels: &Pixels, line: Lane, start: usize, dark: bool) -> usize
     ensures { result ≤ line.length }
 {
     for place in start..line.length {
@@ -376,7 +376,7 @@ pub(crate) fn run_end(pixels: &Pixels, line: Line, start: usize, dark: bool) -> 
 }
 
 // Returns the start of the run of dark (or light) pixels that ends before `end`.
-pub(crate) fn run_start(pixels: &Pixels, line: Line, end: usize, dark: bool) -> usize
+pub(crate) fn run_start(pixels: &Pixels, line: Lane, end: usize, dark: bool) -> usize
     requires { end ≤ line.length }
     ensures { result ≤ end }
 {
@@ -389,7 +389,7 @@ pub(crate) fn run_start(pixels: &Pixels, line: Line, end: usize, dark: bool) -> 
 }
 
 // Whether the pixel at a place of a line is dark; there is none outside.
-fn is_dark(pixels: &Pixels, line: Line, place: usize) -> bool {
+fn is_dark(pixels: &Pixels, line: Lane, place: usize) -> bool {
     place < line.length
         && matches!(
             pixels.marks().get(line.first + place * line.step),

@@ -2,7 +2,7 @@
 
 ghost use Rattle.std.specs.Prelude.{◌≡◌, ◌*◌, ◌+◌, ◌≤◌, IfSome};
 
-use crate::finders::{Finder, Line, centre_of, column_of, is_near, row_of, run_end, run_start};
+use crate::finders::{Finder, Lane, centre_of, column_of, is_near, row_of, run_end, run_start};
 use crate::grids::{Grid, push_grid};
 use crate::pixels::Pixels;
 use std::alloc::AllocError;
@@ -56,7 +56,7 @@ fn micro_grid(pixels: &Pixels, finder: Finder, is_right: bool, is_lower: bool) -
 
 // Measures the modules along an outer line of a finder pattern: its seven, and the timing pattern
 // before or after them. `centre` is twice its centre, `seven` its pixels.
-fn span_of(pixels: &Pixels, line: Line, centre: usize, seven: usize, is_before: bool) -> ModuleSpan
+fn span_of(pixels: &Pixels, line: Lane, centre: usize, seven: usize, is_before: bool) -> ModuleSpan
     requires { (centre ≤ 131070) × (seven ≤ 65535) × (line.length ≤ 65535) }
 {
     let near = if is_before {
@@ -77,7 +77,7 @@ fn span_of(pixels: &Pixels, line: Line, centre: usize, seven: usize, is_before: 
 // it ends, and the number of its modules and the seven of the finder pattern.
 fn timing_end(
     pixels: &Pixels,
-    line: Line,
+    line: Lane,
     place: usize,
     seven: usize,
     is_before: bool,
@@ -98,7 +98,7 @@ fn timing_end(
 }
 
 // Returns the end, or going backwards the start, of the run of dark (or light) pixels at `place`.
-fn edge_of(pixels: &Pixels, line: Line, place: usize, dark: bool, is_before: bool) -> usize
+fn edge_of(pixels: &Pixels, line: Lane, place: usize, dark: bool, is_before: bool) -> usize
     requires { place ≤ line.length }
     ensures { result ≤ line.length }
 {

@@ -97,21 +97,21 @@ impl QrCode {
     /// # Ok::<(), Box<dyn std::error::Error>>(())
     /// ```
     pub fn reserve(&self, area: &[Rectangle]) -> Result<Reserve, Excess> {
-        let mut taken = sys::goq_taken::default();
+        let mut area_use = sys::goq_area_use::default();
         let (version, level) = (self.version.number(), self.ec_level as u32);
         let mut touched = vec![0; sys::GOQ_BLOCKS_MAX];
         let answer = unsafe {
             let (out, room) = (touched.as_mut_ptr(), touched.len());
-            sys::goq_reserve(version, level, area.as_ptr(), area.len(), out, room, &mut taken)
+            sys::goq_reserve(version, level, area.as_ptr(), area.len(), out, room, &mut area_use)
         };
         allowed(answer, 0)?;
-        touched.truncate(taken.blocks);
+        touched.truncate(area_use.blocks);
         Ok(Reserve {
             touched,
-            allowed: taken.allowed,
-            worst: taken.worst,
-            format_modules: [taken.first, taken.last],
-            least: (taken.may_show_anything != 0).then_some(taken.least),
+            allowed: area_use.allowed,
+            worst: area_use.worst,
+            format_modules: [area_use.first, area_use.last],
+            least: (area_use.may_show_anything != 0).then_some(area_use.least),
         })
     }
 
