@@ -14,7 +14,7 @@ use Rattle.goqlanis_buffers.specs.Shades.{colors_of}
 use Rattle.qrcode_reader.specs.Readings.{IsReading, IsTextReading, HasNoVersion}
 use Rattle.qrcode_reader.specs.declared.correction.WrongCodeword.{WrongCodeword}
 use Rattle.qrcode_reader.proofs.Positioned.{unread_of_no_version}
-use Rattle.qrcode_scan.specs.Scans.{IsReadAs, IsScanOf}
+use Rattle.qrcode_scan.specs.Scans.{IsScanRead, IsScanOf}
 use Rattle.qrcode_scan.specs.declared.scanning.Scan.{Scan}
 use Rattle.goqlanis_buffers.specs.Readings.{IsReadNowhere}
 
@@ -47,9 +47,9 @@ pub nowhere : (bytes : List ℕ) → ((v : Version) → IsTrue (is_valid v) → 
 nowhere bytes none = record { none = λ w square. unread_of_no_version (colors_of bytes) (no_side bytes none) w square }
 
 -- the version of a code in a picture has its level
-pub read_existing : (scan : Scan) → IsReadAs scan → IsTrue (has_level scan.any.reading.version scan.any.reading.ec_level)
+pub read_existing : (scan : Scan) → IsScanRead scan → IsTrue (has_level scan.any.reading.version scan.any.reading.ec_level)
 read_existing scan read = read.first.read.read.only.found.exists
 
 -- each code of a picture has a reading
-pub all_read : (picture : List ℕ) (scans : List Scan) → All (IsScanOf picture) scans → All IsReadAs scans
-all_read picture scans all = All-weaker (IsScanOf picture) IsReadAs (λ scan is. is.read) scans all
+pub all_read : (picture : List ℕ) (scans : List Scan) → All (IsScanOf picture) scans → All IsScanRead scans
+all_read picture scans all = All-weaker (IsScanOf picture) IsScanRead (λ scan is. is.read) scans all

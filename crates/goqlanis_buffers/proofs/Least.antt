@@ -12,7 +12,7 @@ use Rattle.qrcode_types.specs.declared.types.Version.TheVariants.{Normal}
 use Rattle.qrcode_bits.proofs.Bands.{normal_level, normal_number}
 use Rattle.goqlanis_buffers.specs.Answers.{IsLeastCause}
 use Rattle.goqlanis_buffers.specs.Names.{level_named, version_named}
-use Rattle.goqlanis_buffers.specs.Segments.{AreHeld, AreUnheld, HasNoRoom, IsLeastHeld}
+use Rattle.goqlanis_buffers.specs.Segments.{AreHeld, IsUnheldCause, HasNoRoom, IsLeastHeld}
 use Rattle.goqlanis_buffers.specs.declared.answers.Refusal.{Refusal}
 use Rattle.goqlanis_buffers.specs.declared.answers.Refusal.TheVariants.{NoRoom, OutOfMemory}
 use Rattle.goqlanis_buffers.specs.declared.segments.Segment.{Segment}
@@ -26,7 +26,7 @@ not_held v l segments (inl first) held =
 not_held v l segments (inr c) held = absurd (omega (arith, c.1, held.room))
 
 -- if a version has the level and the error is `NoRoom`, it has no room for the segments
-no_room : (v : Version) (l : EcLevel) (segments : List Segment) → IsTrue (has_level v l) → AreUnheld v l segments NoRoom → HasNoRoom v l segments
+no_room : (v : Version) (l : EcLevel) (segments : List Segment) → IsTrue (has_level v l) → IsUnheldCause v l segments NoRoom → HasNoRoom v l segments
 no_room v l segments exists (inl memory) = let same : NoRoom ≡ OutOfMemory = memory in absurd cc
 no_room v l segments exists (inr (inl first)) = inl first
 no_room v l segments exists (inr (inr (inl c))) = absurd (true≢false (sym exists ∙ c.1))
@@ -34,14 +34,14 @@ no_room v l segments exists (inr (inr (inr c))) = inr c.1
 
 -- one more version has no room for the segments
 pub no_room_more : (number : ℕ) (v : Version) (l : EcLevel) (segments : List Segment) (r : Refusal) → v ≡ Normal (pos number) → 1 ≤ number → number ≤ 40
-    → false ≡ not (sameb the_type r NoRoom) → AreUnheld v l segments r
+    → false ≡ not (sameb the_type r NoRoom) → IsUnheldCause v l segments r
     → ((n : ℕ) → 1 ≤ n → n < number → HasNoRoom (Normal (pos n)) l segments)
     → (n : ℕ) → 1 ≤ n → n < number + 1 → HasNoRoom (Normal (pos n)) l segments
 no_room_more number v l segments r named some most found why lesser n first small = elim (cases_lt n number) [
   | inl less ↦ lesser n first less
   | inr more ↦
       let equal : number ≡ n = omega (arith, more, small) in
-      let unheld = subst (λ r. AreUnheld (Normal (pos number)) l segments r) (differs_false the_type tt r NoRoom (sym found)) (subst (λ w. AreUnheld w l segments r) named why) in
+      let unheld = subst (λ r. IsUnheldCause (Normal (pos number)) l segments r) (differs_false the_type tt r NoRoom (sym found)) (subst (λ w. IsUnheldCause w l segments r) named why) in
       subst (λ k. HasNoRoom (Normal (pos k)) l segments) equal (no_room (Normal (pos number)) l segments (normal_level number l some most) unheld)
 ]
 
@@ -67,9 +67,9 @@ least_held number v l segments named held lesser = record {
 
 -- an error of a segment other than `NoRoom`, in the first version with room for those before it, is a cause of the error of the call
 pub lasting : (number level : ℕ) (v : Version) (l : EcLevel) (segments : List Segment) (r : Refusal) → v ≡ Normal (pos number) → 1 ≤ number → number ≤ 40
-    → level_named level ≡ Some l → r ≢ NoRoom → AreUnheld v l segments r
+    → level_named level ≡ Some l → r ≢ NoRoom → IsUnheldCause v l segments r
     → ((n : ℕ) → 1 ≤ n → n < number → HasNoRoom (Normal (pos n)) l segments) → IsLeastCause level segments r
-lasting number level v l segments r named some most is other why lesser = elim (subst (λ w. AreUnheld w l segments r) named why) [
+lasting number level v l segments r named some most is other why lesser = elim (subst (λ w. IsUnheldCause w l segments r) named why) [
   | inl memory ↦ inl memory
   | inr (inl first) ↦ inr (inr (l, (is, inl (other, record { number = number; some = some; most = most; before = lesser; refused = first }))))
   | inr (inr (inl c)) ↦ absurd (true≢false (sym (normal_level number l some most) ∙ c.1))

@@ -11,15 +11,15 @@ use Rattle.goqlanis_buffers.specs.Colours.{has_colours}
 use Rattle.goqlanis_buffers.specs.Drawings.{has_density, is_sayable}
 use Rattle.qrcode_sheets.specs.Drawn.{are_own, takes_parts}
 use Rattle.qrcode_sheets.specs.declared.layers.PartInk.{PartInk}
-use Rattle.goqlanis_buffers.specs.Tints.{ink_paint, is_same, have_tints, may_be, paint_in, paints, tints}
+use Rattle.goqlanis_buffers.specs.Tints.{ink_paint, has_common_colour, have_tints, may_be, paint_in, paints, tints}
 use Rattle.goqlanis_buffers.specs.declared.pictures.Drawing.{Drawing}
 use Rattle.goqlanis_buffers.specs.declared.tints.Tint.{Tint}
 
 -- if no colour is one of its own, none is drawn
-none_of : (test : Tint → Bool) → ((t : Tint) → test t ≡ is_same t) → (ts : List Tint) → list_all test ts ≡ true → flat_map paint_in ts ≡ []
+none_of : (test : Tint → Bool) → ((t : Tint) → test t ≡ has_common_colour t) → (ts : List Tint) → list_all test ts ≡ true → flat_map paint_in ts ≡ []
 none_of test same [] all = refl
 none_of test same (t ∷ ts) all =
-    elim (is_same t) as (λ b. is_same t ≡ b → (b && list_all test ts) ≡ true → flat_map paint_in (t ∷ ts) ≡ []) [
+    elim (has_common_colour t) as (λ b. has_common_colour t ≡ b → (b && list_all test ts) ≡ true → flat_map paint_in (t ∷ ts) ≡ []) [
       | true ↦ λ is rest. rw is (none_of test same ts rest)
       | false ↦ λ is rest. absurd (true≢false (sym rest))
     ] refl (ap (λ b. b && list_all test ts) (sym (same t)) ∙ all)

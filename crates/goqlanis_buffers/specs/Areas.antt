@@ -34,7 +34,7 @@ abbrev pub told : ℕ → ℕ → Option ℕ  -- the number n, or none if the fl
 told is_there n = if is_there == 0 then None else Some n
 
 -- how many codewords of each block an area touches, and what else it takes of a symbol
-pub record IsTaken (v : Version) (l : EcLevel) (area : ℕ → ℕ → Bool) (counts : List ℕ) (t : AreaUse) : Type 0 where
+pub record IsAreaUse (v : Version) (l : EcLevel) (area : ℕ → ℕ → Bool) (counts : List ℕ) (t : AreaUse) : Type 0 where
   pub counted : counts ≡ map (touched v l area) (range_with_len 0 (length (block_lengths v l)))
   pub blocks : t.blocks ≡ length (block_lengths v l)
   pub allowed : t.allowed ≡ ec_length v l / 2
@@ -45,13 +45,13 @@ pub record IsTaken (v : Version) (l : EcLevel) (area : ℕ → ℕ → Bool) (co
   pub least : IsLeast v l area (told t.may_show_anything t.least)
 
 -- what rectangles take of a symbol of the version and level with these numbers; the counts are at the start of a buffer
-pub record IsTakenInto (version level : ℕ) (rectangles : List Rectangle) (old new : List ℕ) (t : AreaUse) : Type 0 where
+pub record IsAreaUseInto (version level : ℕ) (rectangles : List Rectangle) (old new : List ℕ) (t : AreaUse) : Type 0 where
   pub v : Version
   pub l : EcLevel
   pub named : IsLevelNamed version level v l
   pub inside : IsTrue (is_inside (side v) rectangles)
   pub counts : List ℕ
-  pub taken : IsTaken v l (covers rectangles) counts t
+  pub taken : IsAreaUse v l (covers rectangles) counts t
   pub filled : IsFilled old new counts
 
 -- rectangles are not inside a symbol of the version, or there are more of them than modules in the largest symbol
@@ -69,7 +69,7 @@ IsReserveCause version level rectangles room refusal = IsPairCause version level
 
 abbrev pub WritesReserve : ℕ → ℕ → List Rectangle → List ℕ → List ℕ → Result AreaUse Refusal → Type 0
 WritesReserve version level rectangles old new result =
-    Writes (IsTakenInto version level rectangles old) (IsReserveCause version level rectangles (length old)) old new result
+    Writes (IsAreaUseInto version level rectangles old) (IsReserveCause version level rectangles (length old)) old new result
 
 -- what a wish asks for in a symbol; the number 2 ^ 32 - 1 means a reserve of half of the codewords of each block that may be lost
 abbrev pub wanted : Version → EcLevel → Wish → asked.Wish

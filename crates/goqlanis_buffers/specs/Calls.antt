@@ -32,21 +32,21 @@ abbrev pub refusal_at : Fault → Refusal  -- the error
 refusal_at (At n refusal) = refusal
 refusal_at (Other refusal) = refusal
 
-abbrev pub place_in : Fault → ℕ → ℕ  -- the index or number of what is wrong; or as before, if no item is to blame
-place_in (At n refusal) before = n
-place_in (Other refusal) before = before
+abbrev pub fault_place : Fault → ℕ → ℕ  -- the index or number of what is wrong; or as before, if no item is to blame
+fault_place (At n refusal) before = n
+fault_place (Other refusal) before = before
 
 -- the same, if what is wrong goes to a second output
 pub record IsAnswerAt {T : Type 0} (result : Result T Fault) (number : ℕ) (old new : T) (before after : ℕ) : Type 0 where
   pub ok : IfOk result (λ value. (number ≡ 0) × (new ≡ value) × (after ≡ before))
-  pub err : IfErr result (λ fault. (refusal_of number ≡ Some (refusal_at fault)) × (new ≡ old) × (after ≡ place_in fault before))
+  pub err : IfErr result (λ fault. (refusal_of number ≡ Some (refusal_at fault)) × (new ≡ old) × (after ≡ fault_place fault before))
 
 -- an error is reported, and what is wrong
 pub record IsFault (Cause : Fault → Type 0) (number before after : ℕ) : Type 0 where
   pub fault : Fault
   pub cause : Cause fault
   pub answered : refusal_of number ≡ Some (refusal_at fault)
-  pub placed : after ≡ place_in fault before
+  pub placed : after ≡ fault_place fault before
 
 -- a call for C does this: it returns 0 and a value in an output; or the number of an error with the output unchanged, and reports what is wrong
 pub record IsReportedAt {T : Type 0} (Does : Result T Fault → Type 0) (number : ℕ) (old new : T) (before after : ℕ) : Type 0 where

@@ -21,19 +21,19 @@ use Rattle.goqlanis_buffers.specs.declared.options.CodeSettings.{CodeSettings}
 use Rattle.goqlanis_buffers.specs.declared.options.Options.{Options}
 use Rattle.goqlanis_buffers.specs.declared.symbols.Symbol.{Symbol}
 
-abbrev pub number_of : Charset → ℕ  -- the number of a set: its ECI designator, or 0 for UTF-8 without one
-number_of c = unwrap_or (designator c) 0
+abbrev pub charset_number : Charset → ℕ  -- the number of a set: its ECI designator, or 0 for UTF-8 without one
+charset_number c = unwrap_or (designator c) 0
 
 abbrev pub numbers_tried : List ℕ → List ℕ  -- the sets in which a text may be encoded: those with the given numbers, or all that are tried if none is given
-numbers_tried numbers = if length numbers == 0 then map number_of CHARSETS else numbers
+numbers_tried numbers = if length numbers == 0 then map charset_number CHARSETS else numbers
 
 -- no set has the number at this index, which is the first such
 pub record IsFirstUnknown (numbers : List ℕ) (place : ℕ) : Type 0 where
   pub number : ℕ
   pub at : slice_get numbers place ≡ Some number
   pub sets : List Charset
-  pub before : map number_of sets ≡ take place numbers
-  pub unknown : (c : Charset) → number_of c ≢ number
+  pub before : map charset_number sets ≡ take place numbers
+  pub unknown : (c : Charset) → charset_number c ≢ number
 
 -- why there are no sets with these numbers: one is unknown, or memory ran out
 abbrev pub HasUnknown : List ℕ → Fault → Type 0
@@ -63,7 +63,7 @@ IsUncodedIn a sets utf8 (Other refusal) = IsNotCoded a sets utf8 refusal
 -- what is asked for, and the sets in which the text may be encoded
 pub record IsAskedOf (o : Options) (numbers : List ℕ) (a : CodeSettings) (sets : List Charset) : Type 0 where
   pub named : IsAsked o a
-  pub sets_named : map number_of sets ≡ numbers_tried numbers
+  pub sets_named : map charset_number sets ≡ numbers_tried numbers
 
 -- the symbol of a text that options ask for, in the set with this number, under the mask that they ask for
 pub record IsCodedSymbol (o : Options) (numbers utf8 : List ℕ) (number : ℕ) (code : Code) : Type 0 where
@@ -72,7 +72,7 @@ pub record IsCodedSymbol (o : Options) (numbers utf8 : List ℕ) (number : ℕ) 
   pub named : IsAskedOf o numbers asked sets
   pub text : IsUtf8 utf8
   pub set : Charset
-  pub number_is : number ≡ number_of set
+  pub number_is : number ≡ charset_number set
   pub own : Code
   pub made : IsShortestOf asked.choice sets asked.level (chars utf8) set own
   pub masked : IsMasked asked.mask own code

@@ -6,7 +6,7 @@ use Rattle.qrcode_types.specs.Versions.{has_level}
 use Rattle.goqlanis_buffers.specs.Shades.{colors_of}
 use Rattle.qrcode_check.specs.Checks.{is_standard, IsCheck}
 use Rattle.qrcode_check.specs.Correction.{grade}
-use Rattle.qrcode_check.specs.Masks.{place_of}
+use Rattle.qrcode_check.specs.Masks.{mask_place}
 use Rattle.qrcode_check.specs.declared.checking.Check.{Check}
 use Rattle.qrcode_check.specs.declared.checking.Content.{Content}
 use Rattle.qrcode_check.specs.declared.correction.Grade.{Grade}
@@ -25,8 +25,8 @@ use Rattle.goqlanis_buffers.specs.declared.checking.Checked.{Checked}
 use Rattle.goqlanis_buffers.specs.declared.checking.Checks.{Checks}
 use Rattle.goqlanis_buffers.specs.declared.checking.DataBits.{DataBits}
 
-abbrev pub HasLevel : Check → Type 0  -- the version has the level
-HasLevel check = IsTrue (has_level check.version check.ec_level)
+abbrev pub HasCheckLevel : Check → Type 0  -- the version has the level
+HasCheckLevel check = IsTrue (has_level check.version check.ec_level)
 
 abbrev pub letter_of : Grade → ℕ  -- the letter of a grade in ASCII
 letter_of A = 65
@@ -56,7 +56,7 @@ told_content (Some c) = with_taken c.taken (record nothing {
 pub record IsToldCheck (check : Check) (told : Checked) : Type 0 where
   pub version : version_named told.version ≡ Some check.version
   pub level : level_named told.level ≡ Some check.ec_level
-  pub mask : told.mask ≡ place_of check.version check.mask
+  pub mask : told.mask ≡ mask_place check.version check.mask
   pub standard : told.standard ≡ from_bool (is_standard check)
   pub grade : told.grade ≡ letter_of (grade check.unused)
   pub blocks : told.blocks ≡ length check.wrong.items
@@ -67,8 +67,8 @@ pub record IsToldCheck (check : Check) (told : Checked) : Type 0 where
   pub masks : told.masks ≡ check.stepped
   pub masks_here : told.masks_here ≡ check.own
 
-abbrev pub wrong_in : Check → List ℕ  -- the number of wrong codewords of each block
-wrong_in check = check.wrong.items
+abbrev pub wrong_counts : Check → List ℕ  -- the number of wrong codewords of each block
+wrong_counts check = check.wrong.items
 
 abbrev pub AreToldChecks : List Check → List Checked → Type 0
 AreToldChecks checks told = AllZip IsToldCheck checks told
@@ -82,7 +82,7 @@ pub record IsChecked (picture : List ℕ) (size : ℕ) (told : List Checked) (wr
   pub said : AreChecksOf picture scans checks
   pub some : 1 ≤ length checks
   pub each : AreToldChecks checks told
-  pub blocks : wrong ≡ flat_map wrong_in checks
+  pub blocks : wrong ≡ flat_map wrong_counts checks
 
 abbrev pub IsUncheckedFor : List ℕ → ℕ → Refusal → Type 0  -- why they are not checked, for a struct of this size
 IsUncheckedFor picture size refusal = IsPictureCause 24 (IsUncheckedPicture picture) picture size refusal

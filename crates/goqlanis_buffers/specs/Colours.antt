@@ -22,16 +22,16 @@ opacity_of colour = 255 - colour / 16777216
 abbrev pub hex_text : ℕ → List ℕ  -- a byte as two hexadecimal digits
 hex_text n = digit_glyph false (n / 16) ∷ digit_glyph false (n % 16) ∷ []
 
-abbrev pub digits_of : ℕ → List ℕ  -- `#` and red, green and blue in hexadecimal
-digits_of colour = codes "#" ++ hex_text (red_of colour) ++ hex_text (green_of colour) ++ hex_text (blue_of colour)
+abbrev pub hex_colour : ℕ → List ℕ  -- `#` and red, green and blue in hexadecimal
+hex_colour colour = codes "#" ++ hex_text (red_of colour) ++ hex_text (green_of colour) ++ hex_text (blue_of colour)
 
 -- the name of a colour in SVG; the opacity follows if it is partial
 abbrev pub colour_name : ℕ → List ℕ
 colour_name colour =
     if colour == 0 then codes "#000"
     else (if colour == 0xffffff then codes "#fff"
-    else (if opacity_of colour == 255 then digits_of colour
-    else (if opacity_of colour == 0 then codes "none" else digits_of colour ++ hex_text (opacity_of colour))))
+    else (if opacity_of colour == 255 then hex_colour colour
+    else (if opacity_of colour == 0 then codes "none" else hex_colour colour ++ hex_text (opacity_of colour))))
 
 abbrev pub named_shade : List ℕ → ℕ → Shade  -- a colour with this name
 named_shade name colour = record {

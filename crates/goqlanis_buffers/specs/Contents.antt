@@ -35,15 +35,15 @@ abbrev pub passed : Option Fault → Result (Unit {0}) Fault  -- the result of a
 passed None = Ok tt
 passed (Some fault) = Err fault
 
-abbrev pub AreTaken : ℕ → List Slot → ℕ → Type 0  -- the first n fields pass their own check
-AreTaken count given n = (i : ℕ) → i < n → (g : Slot) → slice_get given i ≡ Some g → field_fault count i g ≡ None
+abbrev pub PassChecks : ℕ → List Slot → ℕ → Type 0  -- the first n fields pass their own check
+PassChecks count given n = (i : ℕ) → i < n → (g : Slot) → slice_get given i ≡ Some g → field_fault count i g ≡ None
 
 -- the first field that fails its own check, and its error
 pub record IsFirstWrong (count : ℕ) (given : List Slot) (fault : Fault) : Type 0 where
   pub place : ℕ
   pub field : Slot
   pub at : slice_get given place ≡ Some field
-  pub before : AreTaken count given place
+  pub before : PassChecks count given place
   pub wrong : field_fault count place field ≡ Some fault
 
 abbrev pub cause_refusal : Cause → Refusal  -- the error that C gets of the cause of a wrong field
@@ -65,7 +65,7 @@ refusal_for kind given = content_refusal kind (texts_of kind given)
 pub record IsContent (number : ℕ) (given : List Slot) (text : List ℕ) : Type 0 where
   pub kind : Kind
   pub asked : kind_named number ≡ Some kind
-  pub taken : AreTaken (length (fields_of kind)) given (length given)
+  pub taken : PassChecks (length (fields_of kind)) given (length given)
   pub accepted : refusal_for kind given ≡ None
   pub reads : IsReadAsFields kind (texts_of kind given) text
   pub value : text ≡ payload_text kind (texts_of kind given)
@@ -82,14 +82,14 @@ pub record IsFormatFault (kind : Kind) (given : List Slot) (fault : Fault) : Typ
   pub field : Field
   pub cause : Cause
   pub place : ℕ
-  pub taken : AreTaken (length (fields_of kind)) given (length given)
+  pub taken : PassChecks (length (fields_of kind)) given (length given)
   pub refused : refusal_for kind given ≡ Some (Refused field cause)
   pub at : place ≡ field_index (fields_of kind) field
   pub is : fault ≡ At place (cause_refusal cause)
 
 -- the fields of a kind have an error: the first field that fails its own check, or else the first that the format names
-abbrev pub AreRefused : ℕ → List Slot → Fault → Type 0
-AreRefused number given fault =
+abbrev pub HaveWrongField : ℕ → List Slot → Fault → Type 0
+HaveWrongField number given fault =
     (kind : Kind) × ((kind_named number ≡ Some kind)
     × (IsFirstWrong (length (fields_of kind)) given fault ⊎ IsFormatFault kind given fault))
 
@@ -102,7 +102,7 @@ IsOtherCause number given room fault = ⊥
 
 -- why fields have no text of the kind with a number, in a buffer of `room` bytes
 abbrev pub IsContentCause : ℕ → List Slot → ℕ → Fault → Type 0
-IsContentCause number given room fault = AreRefused number given fault ⊎ IsOtherCause number given room fault
+IsContentCause number given room fault = HaveWrongField number given fault ⊎ IsOtherCause number given room fault
 
 -- writes the text of fields of the kind with a number, and returns its length
 abbrev pub WritesContent : ℕ → List Slot → List ℕ → List ℕ → Result ℕ Fault → Type 0

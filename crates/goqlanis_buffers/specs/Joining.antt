@@ -31,8 +31,8 @@ pub record Share : Type 0 where
   pub parity : ℕ
   pub bytes : List ℕ
 
-abbrev pub part_of : Part → Share
-part_of p = record { place = p.place; last = p.last; parity = p.parity; bytes = p.bytes.now }
+abbrev pub share_of : Part → Share
+share_of p = record { place = p.place; last = p.last; parity = p.parity; bytes = p.bytes.now }
 
 abbrev pub found_part : DecodedPart → Share
 found_part f = record { place = f.place; last = f.last; parity = f.parity; bytes = f.bytes.items }
@@ -79,7 +79,7 @@ pub record IsFirstNoPart (squares : List SquareBytes) (place : ℕ) (refusal : R
 -- the data of the parts that squares decode to
 pub record IsDataOf (squares : List SquareBytes) (bytes : List ℕ) : Type 0 where
   pub parts : List Part
-  pub read : ArePartsOf squares (map part_of parts)
+  pub read : ArePartsOf squares (map share_of parts)
   pub joined : IsJoined parts bytes
 
 -- such data at the start of a buffer, and its length
@@ -103,7 +103,7 @@ join_fault join.OutOfMemory = Other refusals.OutOfMemory
 
 -- the parts of squares are not all the parts of the same data
 abbrev pub AreNotJoined : List SquareBytes → Fault → Type 0
-AreNotJoined squares fault = (e : JoinError) × ((fault ≡ join_fault e) × ((parts : List Part) × (ArePartsOf squares (map part_of parts) × IsJoinRefused parts e)))
+AreNotJoined squares fault = (e : JoinError) × ((fault ≡ join_fault e) × ((parts : List Part) × (ArePartsOf squares (map share_of parts) × IsJoinRefused parts e)))
 
 -- why squares are not joined into a buffer of `room` bytes
 abbrev pub IsUnjoined : List SquareBytes → ℕ → Fault → Type 0

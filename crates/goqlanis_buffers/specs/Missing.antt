@@ -1,6 +1,6 @@
 -- What the calls for C tell of squares that look like codes but do not decode.
 use Rattle.std.specs.Prelude.{◌≡◌, ◌⊎◌, ◌<◌, ◌≤◌, ℕ, List, All, length, Some, Result}
-use Rattle.qrcode_scan.specs.Codes.{place_of, FindsWholesOf, IsApartFrom, IsMissedOf}
+use Rattle.qrcode_scan.specs.Codes.{bounds_of, FindsWholesOf, IsApartFrom, IsMissedOf}
 use Rattle.qrcode_scan.specs.Scans.{IsScanOf, IsUnreadPicture}
 use Rattle.qrcode_scan.specs.declared.codes.Missed as found
 use Rattle.qrcode_scan.specs.declared.scanning.Scan.{Scan}
@@ -15,8 +15,8 @@ use Rattle.goqlanis_buffers.specs.declared.scanning.Missed.{Missed}
 -- a square in the form that C gets
 pub record IsToldSquare (square : found.Missed) (told : Missed) : Type 0 where
   pub width : told.width ≡ square.grid.count
-  pub left : told.left ≡ (place_of square.grid).left
-  pub top : told.top ≡ (place_of square.grid).top
+  pub left : told.left ≡ (bounds_of square.grid).left
+  pub top : told.top ≡ (bounds_of square.grid).top
   pub why : refusal_of told.why ≡ Some (square_refusal square.cause)
 
 -- a square of a picture that decodes in no position, but has format information; no code overlaps it

@@ -3,7 +3,7 @@ use Rattle.std.specs.Prelude.{◌≡◌, ℕ, ◌+◌, ◌*◌, Bool, List, leng
 use Rattle.qrcode_types.specs.declared.types.EcLevel.{EcLevel}
 use Rattle.qrcode_types.specs.declared.types.Version.{Version}
 use Rattle.qrcode_types.specs.Versions.{side}
-use Rattle.qrcode_check.specs.Masks.{place_of}
+use Rattle.qrcode_check.specs.Masks.{mask_place}
 use Rattle.qrcode_layout.specs.declared.masks.MaskPattern.{MaskPattern}
 use Rattle.qrcode_types.specs.declared.types.Color.{Color}
 use Rattle.qrcode.specs.Reading.{Reads}
@@ -37,7 +37,7 @@ position_number p is_inverted = if is_inverted then plain_number p + 8 else plai
 pub record IsReadingOf (v : Version) (l : EcLevel) (mask : MaskPattern) (wrong count : ℕ) (reading : Reading) : Type 0 where
   pub version : version_named reading.version ≡ Some v
   pub level : level_named reading.level ≡ Some l
-  pub mask_reported : reading.mask ≡ place_of v mask
+  pub mask_reported : reading.mask ≡ mask_place v mask
   pub wrong_reported : reading.wrong ≡ wrong
   pub counted : reading.length ≡ count
 
@@ -109,4 +109,4 @@ pub record IsMaskNumber (modules : List ℕ) (number : ℕ) : Type 0 where
   pub mask : MaskPattern
   pub square : length (colors_of modules) ≡ side version * side version
   pub named : HasFormat version (colors_of modules) level mask
-  pub reported : number ≡ place_of version mask
+  pub reported : number ≡ mask_place version mask

@@ -101,8 +101,8 @@ abbrev pub HasNoRoom : Version → EcLevel → List Segment → Type 0
 HasNoRoom v l segments = IsFirstRefused v segments NoRoom ⊎ HaveNoRoom v l segments
 
 -- why a version does not hold segments, or that memory ran out
-abbrev pub AreUnheld : Version → EcLevel → List Segment → Refusal → Type 0
-AreUnheld v l segments refusal =
+abbrev pub IsUnheldCause : Version → EcLevel → List Segment → Refusal → Type 0
+IsUnheldCause v l segments refusal =
     (refusal ≡ OutOfMemory)
     ⊎ (IsFirstRefused v segments refusal
     ⊎ (((refusal ≡ LevelNotInVersion) × (has_level v l ≡ false)) ⊎ ((refusal ≡ NoRoom) × HaveNoRoom v l segments)))

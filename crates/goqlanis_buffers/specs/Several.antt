@@ -64,15 +64,15 @@ IsCount zero count = ⊤
 IsCount (suc n) count = count ≡ suc n
 
 -- none of the versions holds the data in this many symbols
-abbrev pub AreUnheld : ℕ → Named → List ℕ → Type 0
-AreUnheld wanted a bytes = (n count : ℕ) → IsAmong a.versions n → IsCount wanted count → ¬ HoldSeveral a.manner (Normal (pos n)) a.level bytes count
+abbrev pub AreBeyondSeveral : ℕ → Named → List ℕ → Type 0
+AreBeyondSeveral wanted a bytes = (n count : ℕ) → IsAmong a.versions n → IsCount wanted count → ¬ HoldSeveral a.manner (Normal (pos n)) a.level bytes count
 
 -- none of the versions that are asked for holds the data; a text is UTF-8
 pub record HaveNoRoom (s : Several) (bytes : List ℕ) : Type 0 where
   pub asked : Named
   pub named : AreAsked s asked
   pub text : IsTrue (is_text asked.manner) → IsUtf8 bytes
-  pub none : AreUnheld s.count asked bytes
+  pub none : AreBeyondSeveral s.count asked bytes
 
 -- a text is asked for, but the data is not UTF-8
 pub record IsNoText (s : Several) (bytes : List ℕ) : Type 0 where
@@ -82,11 +82,11 @@ pub record IsNoText (s : Several) (bytes : List ℕ) : Type 0 where
   pub none : ¬ IsUtf8 bytes
 
 -- the struct has the right size, and there is a level with its number; `HasVersions`: and a range of versions; `HasManner`: and a manner
-abbrev pub HasLevel : Several → Type 0
-HasLevel s = (s.size ≡ 24) × (level_named s.level ≢ None)
+abbrev pub HasSeveralLevel : Several → Type 0
+HasSeveralLevel s = (s.size ≡ 24) × (level_named s.level ≢ None)
 
 abbrev pub HasVersions : Several → Type 0
-HasVersions s = HasLevel s × IsRange s
+HasVersions s = HasSeveralLevel s × IsRange s
 
 abbrev pub HasManner : Several → Type 0
 HasManner s = HasVersions s × (manner_of s.manner ≢ None)
@@ -95,7 +95,7 @@ HasManner s = HasVersions s × (manner_of s.manner ≢ None)
 abbrev pub IsSeveralCause : Several → List ℕ → ℕ → Refusal → Type 0
 IsSeveralCause s bytes room NoSuchStruct = s.size ≢ 24
 IsSeveralCause s bytes room NoSuchLevel = (s.size ≡ 24) × (level_named s.level ≡ None)
-IsSeveralCause s bytes room NoSuchVersion = HasLevel s × (¬ IsRange s)
+IsSeveralCause s bytes room NoSuchVersion = HasSeveralLevel s × (¬ IsRange s)
 IsSeveralCause s bytes room NoSuchManner = HasVersions s × (manner_of s.manner ≡ None)
 IsSeveralCause s bytes room NoSuchNumber = HasManner s × (16 < s.count)
 IsSeveralCause s bytes room NotText = IsNoText s bytes

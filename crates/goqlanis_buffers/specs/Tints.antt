@@ -27,16 +27,16 @@ tints d =
     record { part = VersionWord; tone = Dark; colour = d.version_dark } ∷ record { part = VersionWord; tone = Light; colour = d.version_light } ∷
     record { part = Data; tone = Dark; colour = d.data_dark } ∷ record { part = Data; tone = Light; colour = d.data_light } ∷ []
 
-abbrev pub is_same : Tint → Bool  -- the modules have the colour of all dark or light ones
-is_same t = t.colour == 0xffffffff
+abbrev pub has_common_colour : Tint → Bool  -- the modules have the colour of all dark or light ones
+has_common_colour t = t.colour == 0xffffffff
 
 abbrev pub is_plain : Drawing → Bool  -- no part has a colour of its own
-is_plain d = list_all is_same (tints d)
+is_plain d = list_all has_common_colour (tints d)
 
 abbrev pub may_be : Colours → Tint → Bool  -- a part may have this colour of its own, or it has none
 may_be Any t = true
-may_be Opaque t = nat_lt t.colour (2 ^ 24) || is_same t
-may_be Fixed t = is_same t
+may_be Opaque t = nat_lt t.colour (2 ^ 24) || has_common_colour t
+may_be Fixed t = has_common_colour t
 
 abbrev pub have_tints : Format → Drawing → Bool  -- the format supports the colours that parts have of their own
 have_tints f d = list_all (may_be (row f).parts) (tints d)
@@ -67,7 +67,7 @@ abbrev pub named_paint : NamedTint → Paint
 named_paint n = record { part = n.tint.part; tone = n.tint.tone; shade = named_shade (string_bytes n.name) n.tint.colour }
 
 abbrev pub paint_in : Tint → List Paint  -- the colour, if it is one of its own
-paint_in t = if is_same t then [] else record { part = t.part; tone = t.tone; shade = colour_shade t.colour } ∷ []
+paint_in t = if has_common_colour t then [] else record { part = t.part; tone = t.tone; shade = colour_shade t.colour } ∷ []
 
 abbrev pub paints : Drawing → List Paint  -- the colours that parts have of their own, in order
 paints d = flat_map paint_in (tints d)

@@ -6,7 +6,7 @@ ghost use Rattle.qrcode_types.specs.declared.types.EcLevel.{EcLevel};
 ghost use Rattle.qrcode_types.specs.declared.types.Version.{Version};
 ghost use Rattle.qrcode_damage.specs.Areas.{covers};
 ghost use Rattle.qrcode_damage.specs.Reserves.{IsReserve};
-ghost use Rattle.goqlanis_buffers.specs.Areas.{covered_byte, wanted, CoversArea, IsTaken, TellsLargest, WritesReserve};
+ghost use Rattle.goqlanis_buffers.specs.Areas.{covered_byte, wanted, CoversArea, IsAreaUse, TellsLargest, WritesReserve};
 
 use crate::answers::{Fault, Refusal};
 use crate::names::pair_named;
@@ -96,7 +96,7 @@ pub fn reserve_into(
 fn made_of(reserve: &Reserve) -> AreaUse
     ensures { (version : Version) (level : EcLevel) (area : ℕ → ℕ → Bool)
         → IsReserve version level area reserve.now
-        → IsTaken version level area reserve.now.touched.items result }
+        → IsAreaUse version level area reserve.now.touched.items result }
 {
     let least = reserve.least();
     AreaUse {

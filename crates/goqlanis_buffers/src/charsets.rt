@@ -4,7 +4,7 @@ ghost use Rattle.std.specs.Prelude.{◌≡◌, ◌≢◌, ◌<◌, chars, length
 ghost use Rattle.qrcode_charsets.specs.Shortest.{NoneHas};
 ghost use Rattle.qrcode_charsets.specs.declared.sets.Charset.{Charset};
 ghost use Rattle.goqlanis_request.specs.Charsets.{IsShortestOf};
-ghost use Rattle.goqlanis_buffers.specs.Charsets.{number_of, numbers_tried, HasUnknown, IsLacked, IsUncodedIn, WritesCoded};
+ghost use Rattle.goqlanis_buffers.specs.Charsets.{charset_number, numbers_tried, HasUnknown, IsLacked, IsUncodedIn, WritesCoded};
 
 use crate::answers::{Fault, Refusal};
 use crate::options::{CodeSettings, Options, asked_by};
@@ -86,7 +86,7 @@ fn place_lacked(sets: &[Charset], text: &str) -> Option<usize>
 // at the first number that no set has; or `OutOfMemory`.
 fn sets_of(alloc: Global, numbers: &[u32]) -> Result<Vec<Charset>, Fault>
     ensures value { IfOk result (λ sets.
-        map number_of sets.items ≡ numbers_tried numbers.now) }
+        map charset_number sets.items ≡ numbers_tried numbers.now) }
     ensures some { IfOk result (λ sets. 0 < length sets.items) }
     ensures unknown { IfErr result (HasUnknown numbers.now) }
 {
@@ -101,7 +101,7 @@ fn sets_of(alloc: Global, numbers: &[u32]) -> Result<Vec<Charset>, Fault>
 
 // Returns the sets with these numbers. Errors: as for `sets_of`.
 fn sets_numbered(alloc: Global, numbers: &[u32]) -> Result<Vec<Charset>, Fault>
-    ensures value { IfOk result (λ sets. map number_of sets.items ≡ numbers.now) }
+    ensures value { IfOk result (λ sets. map charset_number sets.items ≡ numbers.now) }
     ensures unknown { IfErr result (HasUnknown numbers.now) }
 {
     let mut sets = Vec::new(alloc);
@@ -118,8 +118,8 @@ fn sets_numbered(alloc: Global, numbers: &[u32]) -> Result<Vec<Charset>, Fault>
 
 // Returns the set with this number.
 fn set_numbered(number: u32) -> Option<Charset>
-    ensures some { IfSome result (λ set. number_of set ≡ number) }
-    ensures none { IfNone result ((set : Charset) → number_of set ≢ number) }
+    ensures some { IfSome result (λ set. charset_number set ≡ number) }
+    ensures none { IfNone result ((set : Charset) → charset_number set ≢ number) }
 {
     if number == 0 {
         return Some(Charset::Unmarked);

@@ -2,7 +2,7 @@
 
 ghost use Rattle.std.specs.Prelude.{◌≡◌, All, flat_map, IfErr, IfOk};
 ghost use Rattle.goqlanis_buffers.specs.Shades.{colors_of};
-ghost use Rattle.goqlanis_buffers.specs.Checking.{letter_of, told_content, wrong_in, AreToldChecks, ChecksPicture, ChecksSquare, HasLevel, IsChecked, IsToldCheck, IsUncheckedFor};
+ghost use Rattle.goqlanis_buffers.specs.Checking.{letter_of, told_content, wrong_counts, AreToldChecks, ChecksPicture, ChecksSquare, HasCheckLevel, IsChecked, IsToldCheck, IsUncheckedFor};
 
 use crate::answers::Refusal;
 use crate::names::{level_number, version_number};
@@ -136,13 +136,13 @@ fn told_in(alloc: Global, picture: &[u8], size: u32) -> Result<CheckReport, Refu
     let found = check_codes(alloc, picture)?;
     Ok(CheckReport {
         checks: checks_in(alloc, &found.checks)?,
-        wrong: wrong_in(alloc, &found.checks)?,
+        wrong: wrong_counts(alloc, &found.checks)?,
     })
 }
 
 // Converts each check.
 fn checks_in(alloc: Global, checks: &[Check]) -> Result<Vec<Checked>, AllocError>
-    requires { All HasLevel checks.now }
+    requires { All HasCheckLevel checks.now }
     ensures { IfOk result (λ all. AreToldChecks checks.now all.items) }
 {
     let mut all = Vec::new(alloc);
@@ -154,8 +154,8 @@ fn checks_in(alloc: Global, checks: &[Check]) -> Result<Vec<Checked>, AllocError
 
 // The wrong codewords of the blocks, code after code.
 #[tactic(auto, using(qrcode_scan::proofs::Pieces::flat_map_more))]
-fn wrong_in(alloc: Global, checks: &[Check]) -> Result<Vec<usize>, AllocError>
-    ensures { IfOk result (λ wrong. wrong.items ≡ flat_map wrong_in checks.now) }
+fn wrong_counts(alloc: Global, checks: &[Check]) -> Result<Vec<usize>, AllocError>
+    ensures { IfOk result (λ wrong. wrong.items ≡ flat_map wrong_counts checks.now) }
 {
     let mut all = Vec::new(alloc);
     for check in checks {
@@ -166,7 +166,7 @@ fn wrong_in(alloc: Global, checks: &[Check]) -> Result<Vec<usize>, AllocError>
 
 // Converts a check, except the wrong codewords of its blocks.
 fn told_check(check: &Check) -> Checked
-    requires { HasLevel check.now }
+    requires { HasCheckLevel check.now }
     ensures { IsToldCheck check.now result }
 {
     Checked {

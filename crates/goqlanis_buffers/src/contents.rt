@@ -4,7 +4,7 @@
 ghost use Rattle.std.specs.Prelude.{◌≡◌, length, string_bytes, IfOk, IfErr, OnOk};
 ghost use Rattle.qrcode_contents.specs.fields.Refusals.{Answers};
 ghost use Rattle.qrcode_payloads.specs.Texts.{payload_text, IsReadAsFields};
-ghost use Rattle.goqlanis_buffers.specs.Contents.{cause_refusal, field_fault, passed, refusal_for, text_at, texts_of, valid_text, AreTaken, IsFirstWrong, WritesContent};
+ghost use Rattle.goqlanis_buffers.specs.Contents.{cause_refusal, field_fault, passed, refusal_for, text_at, texts_of, valid_text, PassChecks, IsFirstWrong, WritesContent};
 
 use crate::answers::{Fault, Refusal};
 use crate::symbols::put;
@@ -68,7 +68,7 @@ fn cause_refusal(cause: Cause) -> Refusal
 //
 // Errors, at the first wrong field: `NoSuchField`, `NotText`.
 fn check(count: usize, given: &[Slot<'_>]) -> Result<(), Fault>
-    ensures taken { OnOk result (AreTaken count given.now (length given.now)) }
+    ensures taken { OnOk result (PassChecks count given.now (length given.now)) }
     ensures refused { IfErr result (IsFirstWrong count given.now) }
 {
     for place in 0..given.len() {

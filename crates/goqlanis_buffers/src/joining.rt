@@ -2,7 +2,7 @@
 
 ghost use Rattle.std.specs.Prelude.{◌≡◌, map, IfOk, IfErr, IfSome};
 ghost use Rattle.goqlanis_buffers.specs.Shades.{colors_of};
-ghost use Rattle.goqlanis_buffers.specs.Joining.{part_of, found_part, join_fault, ArePartsOf, HasNoPart, IsNoPart, IsPartOf, WritesJoined};
+ghost use Rattle.goqlanis_buffers.specs.Joining.{share_of, found_part, join_fault, ArePartsOf, HasNoPart, IsNoPart, IsPartOf, WritesJoined};
 
 use crate::answers::{Fault, Refusal};
 use crate::symbols::{colors_of, put};
@@ -122,7 +122,7 @@ fn decode_square(alloc: Global, modules: &[u8]) -> Result<DecodedPart, Option<Re
 
 // The same parts, with borrowed bytes.
 fn borrowed_parts<'a>(alloc: Global, found: &'a [DecodedPart]) -> Result<Vec<Part<'a>>, AllocError>
-    ensures same { IfOk result (λ parts. map part_of parts.items ≡ map found_part found.now) }
+    ensures same { IfOk result (λ parts. map share_of parts.items ≡ map found_part found.now) }
 {
     let mut parts = Vec::new(alloc);
     for i in 0..found.len() {

@@ -6,7 +6,7 @@ ghost use Rattle.qrcode_reader.specs.Formats.{HasFormat};
 ghost use Rattle.goqlanis_buffers.specs.Answers.{IsMaskCause};
 ghost use Rattle.goqlanis_buffers.specs.Calls.{TellsMask, WritesAnyReading, WritesReading, WritesTextReading};
 ghost use Rattle.goqlanis_buffers.specs.Shades.{colors_of};
-ghost use Rattle.qrcode_check.specs.Masks.{place_of};
+ghost use Rattle.qrcode_check.specs.Masks.{mask_place};
 ghost use Rattle.goqlanis_buffers.specs.Readings.{position_number, IsReadingOf};
 
 use crate::answers::Refusal;
@@ -180,7 +180,7 @@ pub(crate) fn position_number(position: Position, is_inverted: bool) -> u32
 
 // The number of a mask in a version: 0 to 7, in Micro 0 to 3.
 pub(crate) fn mask_number(version: Version, mask: MaskPattern) -> u32
-    ensures { result ≡ place_of version mask }
+    ensures { result ≡ mask_place version mask }
 {
     place_of(version, mask) as u32
 }

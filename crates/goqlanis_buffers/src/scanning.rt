@@ -2,7 +2,7 @@
 
 ghost use Rattle.std.specs.Prelude.{◌≡◌, ◌++◌, ℕ, List, All, flat_map, map, IfErr, IfOk, OnOk};
 ghost use Rattle.qrcode_scan.specs.Codes.{IsMissedOf};
-ghost use Rattle.qrcode_scan.specs.Scans.{IsReadAs};
+ghost use Rattle.qrcode_scan.specs.Scans.{IsScanRead};
 ghost use Rattle.goqlanis_buffers.specs.Missing.{IsToldMissed, IsToldSquare, WritesMissed};
 ghost use Rattle.goqlanis_buffers.specs.Scanning.{bytes_in, mode_kind, parts_in, told_part, AreCodesOf, IsToldOf, IsToldIn, IsUnreadFor, ScansPicture};
 
@@ -140,7 +140,7 @@ fn codes_of(alloc: Global, picture: &[u8], size: u32) -> Result<ScanReport, Refu
 
 // Converts each code, except its parts and bytes.
 fn codes_in(alloc: Global, scans: &[Found]) -> Result<Vec<Code>, AllocError>
-    requires { All IsReadAs scans.now }
+    requires { All IsScanRead scans.now }
     ensures { IfOk result (λ codes. AreCodesOf scans.now codes.items) }
 {
     let mut all = Vec::new(alloc);
@@ -178,7 +178,7 @@ fn bytes_in(alloc: Global, scans: &[Found]) -> Result<Vec<u8>, AllocError>
 // it inverted again.
 #[tactic(auto, using(crate::proofs::Known::read_existing))]
 fn told_code(scan: &Found) -> Code
-    requires { IsReadAs scan.now }
+    requires { IsScanRead scan.now }
     ensures { IsToldOf scan.now result }
 {
     let is_inverted = scan.is_inverted != scan.any.is_inverted;

@@ -5,7 +5,7 @@ ghost use Rattle.qrcode_types.specs.Versions.{is_valid, has_level, capacity};
 ghost use Rattle.goqlanis_buffers.specs.Answers.{IsSegmentsCause};
 ghost use Rattle.goqlanis_buffers.specs.Calls.{TellsLeastOfSegments, WritesSegments};
 ghost use Rattle.goqlanis_buffers.specs.Names.{level_named, version_named};
-ghost use Rattle.goqlanis_buffers.specs.Segments.{kind_named, segment_bits, segment_refusal, written_segments, AreTaken, AreUnheld, IsFirstRefused, IsSymbolOfSegments};
+ghost use Rattle.goqlanis_buffers.specs.Segments.{kind_named, segment_bits, segment_refusal, written_segments, AreTaken, IsUnheldCause, IsFirstRefused, IsSymbolOfSegments};
 ghost use Rattle.goqlanis_buffers.specs.declared.answers.Refusal.TheVariants.{OutOfMemory};
 
 use crate::answers::Refusal;
@@ -134,7 +134,7 @@ fn check_held(
     ensures taken { OnOk result (AreTaken version segments.now (length segments.now)) }
     ensures room { OnOk result
         (length (written_segments version segments.now) ≤ capacity version ec_level) }
-    ensures causes { IfErr result (AreUnheld version ec_level segments.now) }
+    ensures causes { IfErr result (IsUnheldCause version ec_level segments.now) }
 {
     let mut bits = Bits::new(alloc, version);
     let room = bits.max_len(ec_level)?;

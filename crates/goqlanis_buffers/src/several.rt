@@ -3,7 +3,7 @@
 ghost use Rattle.std.specs.Prelude.{◌≡◌, ◌⊎◌, ◌<◌, ◌++◌, ℕ, List, length, IfOk, IfErr, OnOk, OnErr, IsOkUnless};
 ghost use Rattle.qrcode_types.specs.declared.types.QrError.TheVariants.{OutOfMemory};
 ghost use Rattle.goqlanis_buffers.specs.Outputs.{module_bytes};
-ghost use Rattle.goqlanis_buffers.specs.Several.{modules_of, AreAsked, AreOf, AreUnheld, IsSeveralCause, WritesSeveral};
+ghost use Rattle.goqlanis_buffers.specs.Several.{modules_of, AreAsked, AreOf, AreBeyondSeveral, IsSeveralCause, WritesSeveral};
 
 use crate::answers::Refusal;
 use crate::names::level_named;
@@ -79,7 +79,7 @@ pub fn encode_several(
 fn symbols_of(alloc: Global, bytes: &[u8], asked: Named, count: u32) -> QrResult<Vec<QrCode>>
     ensures made { IfOk result (λ codes. AreOf count asked bytes.now codes.items) }
     ensures some { IfOk result (λ codes. 0 < length codes.items) }
-    ensures causes { IfErr result (λ e. (e ≡ OutOfMemory) ⊎ AreUnheld count asked bytes.now) }
+    ensures causes { IfErr result (λ e. (e ≡ OutOfMemory) ⊎ AreBeyondSeveral count asked bytes.now) }
 {
     let Named {
         level,

@@ -6,7 +6,7 @@ ghost use Rattle.qrcode_types.specs.Versions.{is_valid, side};
 ghost use Rattle.qrcode_types.specs.declared.types.QrError.TheVariants.{OutOfMemory};
 ghost use Rattle.qrcode_sheets.specs.Sheets.{shade_of};
 ghost use Rattle.goqlanis_buffers.specs.Colours.{blue_of, colour_name, green_of, has_colours, hex_text, named_shade, opacity_of, red_of};
-ghost use Rattle.goqlanis_buffers.specs.Tints.{has_parts, have_tints, ink_paint, is_plain, is_same, may_be, named_paint, paint_in, tints, version_across, version_for};
+ghost use Rattle.goqlanis_buffers.specs.Tints.{has_parts, have_tints, ink_paint, is_plain, has_common_colour, may_be, named_paint, paint_in, tints, version_across, version_for};
 
 use crate::pictures::Drawing;
 use qrcode::types::{Color, QrResult, Version};
@@ -64,8 +64,8 @@ pub(crate) fn tints(drawing: &Drawing) -> [Tint; 12]
 }
 
 // Whether modules have the colour of all dark or light ones.
-fn is_same(tint: Tint) -> bool
-    ensures { result ≡ is_same tint }
+fn has_common_colour(tint: Tint) -> bool
+    ensures { result ≡ has_common_colour tint }
 {
     tint.colour == SAME
 }
@@ -75,7 +75,7 @@ pub(crate) fn is_plain(drawing: &Drawing) -> bool
     ensures value { result ≡ is_plain drawing.now }
 {
     let tints = tints(drawing);
-    tints.iter().all(|tint| is_same(*tint))
+    tints.iter().all(|tint| has_common_colour(*tint))
 }
 
 /// Returns whether a format supports the colours that parts have of their own.
@@ -93,8 +93,8 @@ fn may_be(colours: Colours, tint: Tint) -> bool
 {
     match colours {
         Colours::Any => true,
-        Colours::Opaque => tint.colour < CLEAR || is_same(tint),
-        Colours::Fixed => is_same(tint),
+        Colours::Opaque => tint.colour < CLEAR || has_common_colour(tint),
+        Colours::Fixed => has_common_colour(tint),
     }
 }
 
@@ -149,7 +149,7 @@ fn push_own(alloc: Global, own: &mut Vec<NamedTint>, tint: Tint) -> QrResult<()>
         ≡ map named_paint own.old.items ++ paint_in tint) }
     ensures memory { IsOkUnless result OutOfMemory }
 {
-    if !is_same(tint) {
+    if !has_common_colour(tint) {
         let name = name_of(alloc, tint.colour)?;
         own.push(NamedTint { tint, name })?;
     }

@@ -14,7 +14,7 @@ use Rattle.qrcode_bits.specs.Manners.{rank}
 use Rattle.qrcode_bits.proofs.Manners.{valid_of}
 use Rattle.qrcode.specs.Code.{Code}
 use Rattle.qrcode_charsets.proofs.Ranks.{rank_at_most, same_rank}
-use Rattle.goqlanis_request.specs.Segments.{first_of, last_of, refusal_in, segments_refusal, AreRefused, AreUnheld, Holds, IsLeastHeld, MayTake}
+use Rattle.goqlanis_request.specs.Segments.{first_of, last_of, refusal_in, segments_refusal, HaveNoSymbol, AreUnheld, Holds, IsLeastHeld, MayTake}
 use Rattle.goqlanis_request.specs.declared.request.Choice.{Choice}
 use Rattle.goqlanis_request.specs.declared.request.Choice.TheVariants.{From, Boosted, At}
 use Rattle.goqlanis_request.specs.declared.segments.Segment.{Segment}
@@ -90,7 +90,7 @@ module _ (l : EcLevel) (segments : List Segment) where
 
   -- if the last version fails too, the error is the cause
   pub last_refused : (choice : Choice) (last : Version) (result : Result Code QrError) → last ≡ last_of choice → IsTrue (is_valid (first_of choice)) → NoneHolds (rank (first_of choice)) (rank last)
-      → IfErr result (λ e. (e ≡ OutOfMemory) ⊎ (refusal_in last l segments ≡ Some e)) → IfErr result (AreRefused choice l segments)
+      → IfErr result (λ e. (e ≡ OutOfMemory) ⊎ (refusal_in last l segments ≡ Some e)) → IfErr result (HaveNoSymbol choice l segments)
   last_refused choice last (Ok code) same valid none causes = tt
   last_refused choice last (Err e) same valid none causes = elim causes [
     | inl memory ↦ inl memory

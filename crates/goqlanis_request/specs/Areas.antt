@@ -8,7 +8,7 @@ use Rattle.qrcode_damage.specs.Rectangles.{in_proportion, centred, only, Fits, I
 use Rattle.qrcode_damage.specs.Refusals.{IsExcess}
 use Rattle.qrcode_damage.specs.declared.areas.Rectangle.{Rectangle}
 use Rattle.qrcode_damage.specs.declared.rectangles.Wish.{Wish}
-use Rattle.goqlanis_request.specs.Elements.{number_of}
+use Rattle.goqlanis_request.specs.Elements.{number_of_normal}
 use Rattle.goqlanis_request.specs.declared.areas.LogoError.{LogoError}
 use Rattle.goqlanis_request.specs.declared.areas.LogoError.TheVariants.{Outside, Patterns, Excess, NoRoom, OutOfMemory}
 use Rattle.goqlanis_request.specs.declared.areas.LogoSize.{LogoSize}
@@ -69,13 +69,13 @@ pub record IsLowest (v : Version) (l : EcLevel) (w : LogoWish) (h : EcLevel) : T
 
 -- no larger Normal version below n has such an area at the level
 abbrev pub NoLarger : Version → EcLevel → LogoWish → ℕ → Type 0
-NoLarger v l w n = (larger : ℕ) → number_of v < larger → larger < n → ¬ HasArea (Normal (pos larger)) l w
+NoLarger v l w n = (larger : ℕ) → number_of_normal v < larger → larger < n → ¬ HasArea (Normal (pos larger)) l w
 
 -- u is the smallest larger Normal version that has such an area at the level
 pub record IsSmallest (v : Version) (l : EcLevel) (w : LogoWish) (u : Version) : Type 0 where
   pub number : ℕ
   pub normal : u ≡ Normal (pos number)
-  pub larger : number_of v < number
+  pub larger : number_of_normal v < number
   pub area : HasArea u l w
   pub none_smaller : NoLarger v l w number
 

@@ -19,20 +19,20 @@ use Rattle.goqlanis_request.specs.Segments.{first_of}
 use Rattle.goqlanis_request.specs.declared.request.Choice.{Choice}
 use Rattle.goqlanis_request.specs.declared.request.Choice.TheVariants.{At}
 
-abbrev pub number_of : Version → ℕ  -- the number of a Normal version; 0 for Micro, which has no FNC1
-number_of (Normal (pos n)) = n
-number_of (Normal (negsuc n)) = 0
-number_of (Micro n) = 0
+abbrev pub number_of_normal : Version → ℕ  -- the number of a Normal version; 0 for Micro, which has no FNC1
+number_of_normal (Normal (pos n)) = n
+number_of_normal (Normal (negsuc n)) = 0
+number_of_normal (Micro n) = 0
 
 -- code is the symbol of the elements at the level, in the smallest allowed version that holds them
 abbrev pub IsElementsIn : Choice → EcLevel → List Item → Code → Type 0
-IsElementsIn (At v) l items code = IsGs1Symbol (number_of v) l items code × (code.version ≡ v)
-IsElementsIn choice l items code = IsGs1Symbol (number_of (first_of choice)) l items code
+IsElementsIn (At v) l items code = IsGs1Symbol (number_of_normal v) l items code × (code.version ≡ v)
+IsElementsIn choice l items code = IsGs1Symbol (number_of_normal (first_of choice)) l items code
 
 -- code is the symbol of the application's data at the level, in the smallest allowed version that holds it
 abbrev pub IsApplicationIn : Choice → ℕ → EcLevel → List ℕ → Code → Type 0
-IsApplicationIn (At v) application l bytes code = IsMarkedSymbol (number_of v) (Second application) l bytes code × (code.version ≡ v)
-IsApplicationIn choice application l bytes code = IsMarkedSymbol (number_of (first_of choice)) (Second application) l bytes code
+IsApplicationIn (At v) application l bytes code = IsMarkedSymbol (number_of_normal v) (Second application) l bytes code × (code.version ≡ v)
+IsApplicationIn choice application l bytes code = IsMarkedSymbol (number_of_normal (first_of choice)) (Second application) l bytes code
 
 -- why data with FNC1 has no symbol in this one version: memory runs out, or the version does not hold it
 abbrev pub IsRefusedAlone : Version → Fnc1 → EcLevel → List ℕ → QrError → Type 0
@@ -41,7 +41,7 @@ IsRefusedAlone v p l bytes e = (e ≡ OutOfMemory) ⊎ ((e ≡ DataTooLong) × (
 -- why an application's data has no symbol: memory runs out, or no allowed version holds it
 abbrev pub IsApplicationRefused : Choice → ℕ → EcLevel → List ℕ → QrError → Type 0
 IsApplicationRefused (At v) application l bytes e = IsRefusedAlone v (Second application) l bytes e
-IsApplicationRefused choice application l bytes e = IsMarkedRefused (number_of (first_of choice)) (Second application) l bytes e
+IsApplicationRefused choice application l bytes e = IsMarkedRefused (number_of_normal (first_of choice)) (Second application) l bytes e
 
 -- why elements have no symbol in this one version: the first element that is not valid; or the version does not hold their element string; or memory runs out
 abbrev pub AreRefusedAlone : Version → EcLevel → List Item → SymbolError → Type 0
@@ -51,4 +51,4 @@ AreRefusedAlone v l items (Symbol e) = (refusal_from 0 items ≡ None) × IsRefu
 -- why elements have no symbol: as IsGs1Refused says, or as AreRefusedAlone says if only one version is allowed
 abbrev pub IsElementsRefused : Choice → EcLevel → List Item → SymbolError → Type 0
 IsElementsRefused (At v) l items e = AreRefusedAlone v l items e
-IsElementsRefused choice l items e = IsGs1Refused (number_of (first_of choice)) l items e
+IsElementsRefused choice l items e = IsGs1Refused (number_of_normal (first_of choice)) l items e

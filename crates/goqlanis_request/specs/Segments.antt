@@ -80,8 +80,8 @@ pub record AreUnheld (choice : Choice) (l : EcLevel) (segments : List Segment) (
   pub cause : refusal_in (last_of choice) l segments ≡ Some e
 
 -- why segments have no symbol: memory runs out; or there is no such version as the choice names; or no allowed version holds them
-abbrev pub AreRefused : Choice → EcLevel → List Segment → QrError → Type 0
-AreRefused choice l segments e = (e ≡ OutOfMemory) ⊎ IfCause (is_valid (first_of choice) ≡ false) (e ≡ InvalidVersion) (AreUnheld choice l segments e)
+abbrev pub HaveNoSymbol : Choice → EcLevel → List Segment → QrError → Type 0
+HaveNoSymbol choice l segments e = (e ≡ OutOfMemory) ⊎ IfCause (is_valid (first_of choice) ≡ false) (e ≡ InvalidVersion) (AreUnheld choice l segments e)
 
 -- code is the symbol of the segments, in order; if they are pieces that can be read back, it decodes to their bytes and to no others
 pub record IsSymbolOfSegments (l : EcLevel) (segments : List Segment) (code : Code) : Type 0 where

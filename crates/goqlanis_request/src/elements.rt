@@ -2,7 +2,7 @@
 
 ghost use Rattle.std.specs.Prelude.{◌≡◌, ◌≢◌, ◌<◌, ◌^◌, true, false, map, IfOk, IfErr};
 ghost use Rattle.qrcode_gs1.specs.Items.{item};
-ghost use Rattle.goqlanis_request.specs.Elements.{IsElementsIn, IsElementsRefused, IsApplicationIn, IsApplicationRefused, number_of};
+ghost use Rattle.goqlanis_request.specs.Elements.{IsElementsIn, IsElementsRefused, IsApplicationIn, IsApplicationRefused, number_of_normal};
 
 use crate::request::Choice;
 use crate::segments::first_of;
@@ -74,7 +74,7 @@ fn is_of(code: &QrCode, version: Version) -> bool
 
 /// Returns the number of a Normal version; 0 for Micro, which has no FNC1.
 pub(crate) fn number_of(version: Version) -> usize
-    ensures value { result ≡ number_of version }
+    ensures value { result ≡ number_of_normal version }
     ensures at_most { result < 2 ^ 16 }
 {
     match version {

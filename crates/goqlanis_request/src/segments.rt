@@ -5,7 +5,7 @@ ghost use Rattle.std.specs.List.{position_from};
 ghost use Rattle.qrcode_types.specs.Versions.{is_valid};
 ghost use Rattle.qrcode_types.specs.declared.types.QrError.TheVariants.{OutOfMemory};
 ghost use Rattle.qrcode_bits.specs.Pushes.{Appends, PushesPiece};
-ghost use Rattle.goqlanis_request.specs.Segments.{first_of, is_unwritable, last_of, refusal_in, segment_bits, segment_refusal, AreRefused, IsLeastHeld, IsSymbolOfSegments};
+ghost use Rattle.goqlanis_request.specs.Segments.{first_of, is_unwritable, last_of, refusal_in, segment_bits, segment_refusal, HaveNoSymbol, IsLeastHeld, IsSymbolOfSegments};
 
 use crate::request::Choice;
 use qrcode::QrCode;
@@ -61,7 +61,7 @@ pub fn symbol_of(
 ) -> QrResult<QrCode>
     ensures version { IfOk result (λ code. IsLeastHeld choice level segments.now code.version) }
     ensures symbol { IfOk result (IsSymbolOfSegments level segments.now) }
-    ensures causes { IfErr result (AreRefused choice level segments.now) }
+    ensures causes { IfErr result (HaveNoSymbol choice level segments.now) }
 {
     let first = first_of(choice);
     if !first.is_valid() {

@@ -10,8 +10,8 @@ use Rattle.qrcode_reader.specs.declared.spell.parts.Part.{Part}
 use Rattle.qrcode_reader.specs.declared.correction.WrongCodeword.{WrongCodeword}
 use Rattle.qrcode_check.specs.Correction.{wrong_codewords, allowed_in_block, unused_correction}
 use Rattle.qrcode_check.specs.Modules.{AreWrongModules, are_right}
-use Rattle.qrcode_check.specs.Masks.{stepped_penalty, penalties, place_of, IsRank}
-use Rattle.qrcode_check.specs.Segments.{AreTaken, NotComparable}
+use Rattle.qrcode_check.specs.Masks.{stepped_penalty, penalties, mask_place, IsRank}
+use Rattle.qrcode_check.specs.Segments.{IsBitUse, NotComparable}
 use Rattle.qrcode_check.specs.Forms.{IsReadRank, inside, narrow, narrow_inside}
 use Rattle.qrcode_check.specs.Ending.{IsEnding}
 use Rattle.qrcode_check.specs.Guesses.{AreGuesses}
@@ -27,7 +27,7 @@ pub record IsContent (v : Version) (bits : List Bool) (c : Content) : Type 0 whe
   pub behind : IsBehindParts v bits parts (drop used bits)
   pub ending : IsEnding v used bits c.ending
   pub guesses : AreGuesses parts bytes c.guesses
-  pub taken : IfSome c.taken (AreTaken v bytes parts)
+  pub taken : IfSome c.taken (IsBitUse v bytes parts)
   pub not_taken : IfNone c.taken (NotComparable v bytes parts)
 
 abbrev pub IsContentOf : Version → List Bool → Option Content → Type 0  -- the same, or None if they are not
@@ -42,8 +42,8 @@ pub record IsCheck (s : List Color) (c : Check) : Type 0 where  -- the square is
   pub allowed : c.allowed ≡ allowed_in_block c.version c.ec_level
   pub unused : c.unused ≡ unused_correction c.allowed c.wrong.items
   pub modules : AreWrongModules c.version c.ec_level c.mask s c.modules
-  pub own : IsRank (penalties penalty c.version c.ec_level c.mask s) (place_of c.version c.mask) c.own
-  pub stepped : IsRank (penalties stepped_penalty c.version c.ec_level c.mask s) (place_of c.version c.mask) c.stepped
+  pub own : IsRank (penalties penalty c.version c.ec_level c.mask s) (mask_place c.version c.mask) c.own
+  pub stepped : IsRank (penalties stepped_penalty c.version c.ec_level c.mask s) (mask_place c.version c.mask) c.stepped
   pub narrow : IsReadRank narrow c.version c.ec_level c.mask s c.narrow
   pub inside : IsReadRank inside c.version c.ec_level c.mask s c.inside
   pub narrow_inside : IsReadRank narrow_inside c.version c.ec_level c.mask s c.narrow_inside

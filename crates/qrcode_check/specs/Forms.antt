@@ -13,30 +13,30 @@ use Rattle.qrcode_penalty.specs.Penalty.{sum_below, count_if, is_finder_like}
 use Rattle.qrcode_symbol.specs.Penalties.{penalty}
 use Rattle.qrcode_reader.specs.Positions.{seen}
 use Rattle.qrcode_reader.specs.declared.positions.Position.TheVariants.{Transposed}
-use Rattle.qrcode_check.specs.Masks.{penalties, place_of, stepped_penalty, IsRank}
+use Rattle.qrcode_check.specs.Masks.{penalties, mask_place, stepped_penalty, IsRank}
 use Rattle.qrcode_check.specs.declared.masks.Penalty.{Penalty}
 use Rattle.qrcode_check.specs.declared.masks.Penalty.TheVariants.{Own, Stepped, By}
 use Rattle.qrcode_check.specs.declared.masks.Rank.{Rank}
 use Rattle.qrcode_check.specs.declared.forms.FormReading.{FormReading}
 
-abbrev pub dark_in : List Color → ℕ → Bool  -- whether place i of a line is dark; no place after it is
-dark_in line i = is_dark (slice_index_or line i Light)
+abbrev pub dark_on_line : List Color → ℕ → Bool  -- whether place i of a line is dark; no place after it is
+dark_on_line line i = is_dark (slice_index_or line i Light)
 
 -- whether place k, counted from four places before the line, is light
 abbrev pub is_light : FormReading → List Color → ℕ → Bool
-is_light r line k = if nat_lt k 4 || nat_le (length line + 4) k then r.light_outside else not (dark_in line (k - 4))
+is_light r line k = if nat_lt k 4 || nat_le (length line + 4) k then r.light_outside else not (dark_on_line line (k - 4))
 
 abbrev pub are_light : FormReading → List Color → ℕ → Bool  -- this place and the next three are light
 are_light r line k = is_light r line k && is_light r line (k + 1) && is_light r line (k + 2) && is_light r line (k + 3)
 
 -- the first and the last dark run of a form at place i have one module
 abbrev pub has_short_ends : List Color → ℕ → Bool
-has_short_ends line i = (i == 0 || not (dark_in line (i - 1))) && not (dark_in line (i + 7))
+has_short_ends line i = (i == 0 || not (dark_on_line line (i - 1))) && not (dark_on_line line (i + 7))
 
 -- a finder form at place i counts: four light places come before or after it, and its ends are short if they have to be
 abbrev pub counts_at : FormReading → List Color → ℕ → Bool
 counts_at r line i =
-    is_finder_like (dark_in line) i && (are_light r line i || are_light r line (i + 11)) && (r.long_runs || has_short_ends line i)
+    is_finder_like (dark_on_line line) i && (are_light r line i || are_light r line (i + 11)) && (r.long_runs || has_short_ends line i)
 
 unfoldable pub line_forms : FormReading → List Color → ℕ  -- 40 for each form in a line
 line_forms r line = sum_below (length line - 6) (λ i. count_if (counts_at r line i) 40)
@@ -77,4 +77,4 @@ counted (By r) = read_penalty r
 
 -- the rank of the mask of a square by this penalty
 abbrev pub IsReadRank : FormReading → Version → EcLevel → MaskPattern → List Color → Rank → Type 0
-IsReadRank r v l k s rank = IsRank (penalties (read_penalty r) v l k s) (place_of v k) rank
+IsReadRank r v l k s rank = IsRank (penalties (read_penalty r) v l k s) (mask_place v k) rank

@@ -25,9 +25,9 @@ stepped_penalty (Micro n) s = penalty (Micro n) s
 abbrev pub penalties : (Version → List Color → ℕ) → Version → EcLevel → MaskPattern → List Color → List ℕ
 penalties count v l k s = map (λ j. count v (remasked v l k j s)) (masks_of v)
 
-abbrev pub place_of : Version → MaskPattern → ℕ  -- the place of a mask among those of its version
-place_of (Normal n) k = mask_number k
-place_of (Micro n) k = micro_mask_number k
+abbrev pub mask_place : Version → MaskPattern → ℕ  -- the place of a mask among those of its version
+mask_place (Normal n) k = mask_number k
+mask_place (Micro n) k = micro_mask_number k
 
 -- how many numbers of a list are lower than the one at a place, and how many before it are equal
 pub record IsRank (numbers : List ℕ) (i : ℕ) (r : Rank) : Type 0 where

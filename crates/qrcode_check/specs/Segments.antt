@@ -33,8 +33,8 @@ is_kanji_part (Front h) = false
 is_kanji_part (Bytes m n) = is_kanji m
 
 -- the modes for a shortest division: if no segment is Kanji, the data is taken for a text, for which Kanji is not used
-abbrev pub modes_of : List Part → Modes
-modes_of parts = if list_any is_kanji_part parts then all_modes else text_modes
+abbrev pub division_modes : List Part → Modes
+division_modes parts = if list_any is_kanji_part parts then all_modes else text_modes
 
 abbrev pub is_segment : Part → Bool  -- a segment, not a header
 is_segment (Front h) = false
@@ -58,11 +58,11 @@ abbrev pub IsLeastLengthIn : Modes → Version → List ℕ → ℕ → Type 0
 IsLeastLengthIn set v bytes n = (segments : List Segment) × (IsLeastCutIn set v bytes segments × (n ≡ total_cost v segments))
 
 -- the bits of the segments, if only such headers come before them, and those of a shortest division of their bytes
-pub record AreTaken (v : Version) (bytes : List ℕ) (parts : List Part) (t : BitUse) : Type 0 where
+pub record IsBitUse (v : Version) (bytes : List ℕ) (parts : List Part) (t : BitUse) : Type 0 where
   pub comparable : are_comparable parts ≡ true
   pub bits : t.bits ≡ taken v parts
-  pub least : IsLeastLengthIn (modes_of parts) v bytes t.least
+  pub least : IsLeastLengthIn (division_modes parts) v bytes t.least
 
 -- nothing is reported: there are other headers, or the bytes cannot be divided into segments of these modes
 abbrev pub NotComparable : Version → List ℕ → List Part → Type 0
-NotComparable v bytes parts = (are_comparable parts ≡ false) ⊎ ((segments : List Segment) → ¬ IsCutIn (modes_of parts) v bytes segments)
+NotComparable v bytes parts = (are_comparable parts ≡ false) ⊎ ((segments : List Segment) → ¬ IsCutIn (division_modes parts) v bytes segments)

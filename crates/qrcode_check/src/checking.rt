@@ -7,7 +7,7 @@ ghost use Rattle.qrcode_reader.specs.Positions.{seen};
 ghost use Rattle.qrcode_reader.specs.Readings.{IsBitCause};
 ghost use Rattle.qrcode_reader.specs.declared.refusals.Unread.TheVariants.{NoSuchSide};
 ghost use Rattle.qrcode_check.specs.Checks.{IsCheck, IsContentOf, has_lowest, is_content_standard, is_standard};
-ghost use Rattle.qrcode_check.specs.Masks.{place_of};
+ghost use Rattle.qrcode_check.specs.Masks.{mask_place};
 
 use crate::correction::{allowed_in_block, unused_correction, wrong_codewords};
 use crate::ending::{Ending, ending_behind};
@@ -72,7 +72,7 @@ pub struct Check {
 impl Check {
     /// Returns the number of the mask, among those of the version.
     pub fn mask_number(&self) -> usize
-        ensures { result ≡ place_of self.now.version self.now.mask }
+        ensures { result ≡ mask_place self.now.version self.now.mask }
     {
         place_of(self.version, self.mask)
     }

@@ -4,7 +4,7 @@
 ghost use Rattle.std.specs.Prelude.{◌≡◌, ◌+◌, ◌*◌, ◌<◌, ◌≤◌, length, IsTrue, IfOk};
 ghost use Rattle.qrcode_types.specs.Versions.{is_valid, side};
 ghost use Rattle.qrcode_penalty.specs.Penalty.{is_finder_like};
-ghost use Rattle.qrcode_check.specs.Forms.{are_light, counts_at, dark_in, forms, has_short_ends, is_light, line_forms, read_penalty, reading, row_forms, square_row};
+ghost use Rattle.qrcode_check.specs.Forms.{are_light, counts_at, dark_on_line, forms, has_short_ends, is_light, line_forms, read_penalty, reading, row_forms, square_row};
 ghost use Rattle.qrcode_check.specs.Masks.{stepped_penalty};
 
 use qrcode_reader::{Position, seen};
@@ -34,7 +34,7 @@ pub fn reading(light_outside: bool, long_runs: bool) -> FormReading
 
 // Whether place `i` of a line is dark.
 fn is_dark(line: &[Color], i: usize) -> bool
-    ensures { result ≡ dark_in line.now i }
+    ensures { result ≡ dark_on_line line.now i }
 {
     matches!(line.get(i), Some(Color::Dark))
 }
@@ -66,7 +66,7 @@ fn are_light(reading: FormReading, line: &[Color], k: usize) -> bool
 #[tactic(auto, unfolding(qrcode_penalty::specs::Penalty::is_finder_like))]
 fn is_form(line: &[Color], i: usize) -> bool
     requires { i ≤ 1000 }
-    ensures { result ≡ is_finder_like (dark_in line.now) i }
+    ensures { result ≡ is_finder_like (dark_on_line line.now) i }
 {
     is_dark(line, i)
         && !is_dark(line, i + 1)

@@ -6,7 +6,7 @@ ghost use Rattle.qrcode_layout.specs.Masks.{mask_count, exists_in};
 ghost use Rattle.qrcode_penalty.specs.Penalty.{dark_count, dark_count_in};
 ghost use Rattle.qrcode_symbol.specs.Penalties.{penalty, is_dark_at, remasked};
 ghost use Rattle.qrcode_check.specs.Forms.{counted};
-ghost use Rattle.qrcode_check.specs.Masks.{stepped_balance, stepped_penalty, penalties, place_of, IsRank};
+ghost use Rattle.qrcode_check.specs.Masks.{stepped_balance, stepped_penalty, penalties, mask_place, IsRank};
 
 use crate::forms::{FormReading, read_penalty};
 use qrcode_layout::masks::{MaskPattern, mask_count, nth_mask};
@@ -107,7 +107,7 @@ fn rank_at(numbers: &[usize], place: usize) -> Rank
 
 /// Returns the place of a mask among those of its version, which is its number.
 pub fn place_of(version: Version, mask: MaskPattern) -> usize
-    ensures { result ≡ place_of version mask }
+    ensures { result ≡ mask_place version mask }
 {
     match version {
         Version::Normal(_) => mask.number(),
@@ -157,7 +157,7 @@ pub fn rank_by(
     requires mask_exists { IsTrue (exists_in version mask) }
     requires square { length modules.now ≡ side version * side version }
     ensures { IfOk result (IsRank (penalties (counted by) version ec_level mask modules.now)
-        (place_of version mask)) }
+        (mask_place version mask)) }
 {
     let mut numbers = Vec::new(alloc);
     for number in 0..mask_count(version) {

@@ -6,7 +6,7 @@ ghost use Rattle.qrcode_types.specs.Versions.{is_valid};
 ghost use Rattle.qrcode_bits.specs.Cuts.{IsCutIn};
 ghost use Rattle.qrcode_bits.specs.declared.optimize.Segment.{Segment};
 ghost use Rattle.qrcode_reader.specs.spell.Parts.{byte_count};
-ghost use Rattle.qrcode_check.specs.Segments.{part_bits, taken, is_kanji_part, is_segment, is_plain_header, modes_of, are_comparable, IsLeastLengthIn, AreTaken, NotComparable};
+ghost use Rattle.qrcode_check.specs.Segments.{part_bits, taken, is_kanji_part, is_segment, is_plain_header, division_modes, are_comparable, IsLeastLengthIn, IsBitUse, NotComparable};
 
 use qrcode_bits::optimize::{Modes, least_segments_in, total_encoded_len};
 use qrcode_reader::spell::{Header, Part};
@@ -69,8 +69,8 @@ fn has_kanji(parts: &[Part]) -> bool
 }
 
 // Returns the modes for a shortest division: all if a segment is Kanji, else those for texts.
-fn modes_of(parts: &[Part]) -> Modes
-    ensures { result ≡ modes_of parts.now }
+fn division_modes(parts: &[Part]) -> Modes
+    ensures { result ≡ division_modes parts.now }
 {
     if has_kanji(parts) {
         Modes::ALL
@@ -152,14 +152,14 @@ pub fn bits_taken(
     requires length { length bytes.now ≤ 100000 }
     requires few { length parts.now ≤ 100000 }
     requires short { AllByRecursion (λ p. byte_count p ≤ 100000) parts.now }
-    ensures value { IfOk result (λ found. IfSome found (AreTaken version bytes.now parts.now)) }
+    ensures value { IfOk result (λ found. IfSome found (IsBitUse version bytes.now parts.now)) }
     ensures none { IfOk result (λ found. IfNone found
         (NotComparable version bytes.now parts.now)) }
 {
     if !are_comparable(parts) {
         return Ok(None);
     }
-    match least_bits(alloc, version, bytes, modes_of(parts))? {
+    match least_bits(alloc, version, bytes, division_modes(parts))? {
         Some(least) => Ok(Some(BitUse {
             bits: taken_by(version, parts),
             least,

@@ -5,19 +5,19 @@ use Rattle.std.proofs.lemmas.Bool.Decides.{nat_tests}
 use Rattle.std.specs.List.{filter, range_with_len}
 use Rattle.qrcode_types.specs.Versions.{side}
 use Rattle.qrcode_types.specs.declared.types.Version.{Version}
-use Rattle.qrcode_damage.specs.Damage.{place_at, is_pattern_place, pattern_places}
+use Rattle.qrcode_damage.specs.Damage.{module_place, is_pattern_place, pattern_places}
 use Rattle.qrcode_damage.specs.Errors.{is_set}
 
 -- those among n modules from module a on
 abbrev among : Version → ℕ → ℕ → List (ℕ × ℕ)
-among v a n = filter (λ (p : ℕ × ℕ). is_pattern_place v p.0 p.1) (map (place_at (side v)) (range_with_len a n))
+among v a n = filter (λ (p : ℕ × ℕ). is_pattern_place v p.0 p.1) (map (module_place (side v)) (range_with_len a n))
 
 abbrev pub ahead_of : Version → ℕ → ℕ  -- how many there are from module i on
 ahead_of v i = length (among v i (side v * side v - i))
 
 one_more : (v : Version) (a n : ℕ) → length (among v a (suc n)) ≡ cond (is_pattern_place v (a % side v) (a / side v)) 1 0 + length (among v (a + 1) n)
 one_more v a n = go (is_pattern_place v (a % side v) (a / side v)) where
-  go : (b : Bool) → length (cond b (place_at (side v) a ∷ among v (a + 1) n) (among v (a + 1) n)) ≡ cond b 1 0 + length (among v (a + 1) n)
+  go : (b : Bool) → length (cond b (module_place (side v) a ∷ among v (a + 1) n) (among v (a + 1) n)) ≡ cond b 1 0 + length (among v (a + 1) n)
   go true = omega arith
   go false = omega arith
 

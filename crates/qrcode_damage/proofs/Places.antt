@@ -19,15 +19,15 @@ use Rattle.qrcode_reader.specs.Parts.{data_part, ec_part}
 use Rattle.qrcode_render.proofs.Grids.{range_append}
 use Rattle.qrcode_reader.proofs.Interleaved.{block_is}
 use Rattle.qrcode_damage.proofs.Beside.{count-cons}
-use Rattle.qrcode_damage.specs.Flips.{count_wrong, AreHigh, shortest_block, length_in, place_of}
+use Rattle.qrcode_damage.specs.Flips.{count_wrong, AreHigh, shortest_block, length_in, codeword_place}
 
-pub row_at : (b : Blocks) (k i : ℕ) → i < b.short_length → place_of b k i ≡ i * count_of b + k
+pub row_at : (b : Blocks) (k i : ℕ) → i < b.short_length → codeword_place b k i ≡ i * count_of b + k
 row_at b k i below = grind (arith, nat_tests)
 
-pub end_at : (b : Blocks) (k : ℕ) → b.short_blocks ≤ k → place_of b k b.short_length ≡ b.short_length * count_of b + (k - b.short_blocks)
+pub end_at : (b : Blocks) (k : ℕ) → b.short_blocks ≤ k → codeword_place b k b.short_length ≡ b.short_length * count_of b + (k - b.short_blocks)
 end_at b k long = grind (arith, nat_tests)
 
-pub ec_at : (b : Blocks) (k i : ℕ) → place_of b k (length_in b k + i) ≡ data_length_of b + i * count_of b + k
+pub ec_at : (b : Blocks) (k i : ℕ) → codeword_place b k (length_in b k + i) ≡ data_length_of b + i * count_of b + k
 ec_at b k i = grind (arith, nat_tests)
 
 -- a range in two parts
@@ -40,11 +40,11 @@ same_range f g a n h =
     (λ i below. get_or-map-range_with_len f a n i (a + i) 0 below refl ∙ h i below)
 
 data_by_places : (b : Blocks) (words : List ℕ) (k : ℕ)
-    → map (λ i. slice_index words (place_of b k i)) (range_with_len 0 (length_in b k)) ≡ data_part b words k
+    → map (λ i. slice_index words (codeword_place b k i)) (range_with_len 0 (length_in b k)) ≡ data_part b words k
 data_by_places b words k =
     let short = b.short_blocks in
     let s = b.short_length in
-    let f = λ (i : ℕ). slice_index words (place_of b k i) in
+    let f = λ (i : ℕ). slice_index words (codeword_place b k i) in
     let g = λ (i : ℕ). slice_index words (i * count_of b + k) in
     let last = slice_index words (s * count_of b + (k - short)) in
     let rows : map f (range_with_len 0 s) ≡ map g (range_with_len 0 s) =
@@ -62,9 +62,9 @@ data_by_places b words k =
 
 -- a block is made of the codewords at its places
 pub block_by_places : (v : Version) (l : EcLevel) (b : Blocks) (words : List ℕ) (k : ℕ) → AreBlocks v l b → k < count_of b
-    → block v l words k ≡ map (λ i. slice_index words (place_of b k i)) (range_with_len 0 (length_in b k + b.ec_length))
+    → block v l words k ≡ map (λ i. slice_index words (codeword_place b k i)) (range_with_len 0 (length_in b k + b.ec_length))
 block_by_places v l b words k are below =
-    let f = λ (i : ℕ). slice_index words (place_of b k i) in
+    let f = λ (i : ℕ). slice_index words (codeword_place b k i) in
     let g = λ (i : ℕ). slice_index words (data_length_of b + i * count_of b + k) in
     let n = length_in b k in
     let start : 0 + n ≡ n = omega arith in
@@ -81,12 +81,12 @@ unique n i k h j below under e =
     (sym (mod-mul-add i n k below) ∙ ap (λ p. p % n) e ∙ mod-mul-add h n j under, sym (div-mul-add i n k below) ∙ ap (λ p. p / n) e ∙ div-mul-add h n j under)
 
 -- a place lies in a row of data, behind the rows, or in a row of error correction
-place_cases : (b : Blocks) (k i : ℕ) → ((i < b.short_length) × (place_of b k i ≡ i * count_of b + k))
-    ⊎ ((((i ≡ b.short_length) × (b.short_blocks ≤ k)) × (place_of b k i ≡ b.short_length * count_of b + (k - b.short_blocks)))
-    ⊎ ((length_in b k ≤ i) × (place_of b k i ≡ data_length_of b + (i - length_in b k) * count_of b + k)))
+place_cases : (b : Blocks) (k i : ℕ) → ((i < b.short_length) × (codeword_place b k i ≡ i * count_of b + k))
+    ⊎ ((((i ≡ b.short_length) × (b.short_blocks ≤ k)) × (codeword_place b k i ≡ b.short_length * count_of b + (k - b.short_blocks)))
+    ⊎ ((length_in b k ≤ i) × (codeword_place b k i ≡ data_length_of b + (i - length_in b k) * count_of b + k)))
 place_cases b k i = grind (arith, nat_tests)
 
-pub same_place : (b : Blocks) (k j i h : ℕ) → k < count_of b → j < count_of b → place_of b k i ≡ place_of b j h → (k ≡ j) × (i ≡ h)
+pub same_place : (b : Blocks) (k j i h : ℕ) → k < count_of b → j < count_of b → codeword_place b k i ≡ codeword_place b j h → (k ≡ j) × (i ≡ h)
 same_place b k j i h below under e =
     let n = count_of b in
     let s = b.short_length in
@@ -115,7 +115,7 @@ same_place b k j i h below under e =
     ]
 
 -- and all places are inside
-pub place_inside : (b : Blocks) (k i : ℕ) → k < count_of b → i < length_in b k + b.ec_length → place_of b k i < data_length_of b + b.ec_length * count_of b
+pub place_inside : (b : Blocks) (k i : ℕ) → k < count_of b → i < length_in b k + b.ec_length → codeword_place b k i < data_length_of b + b.ec_length * count_of b
 place_inside b k i below inside = elim (place_cases b k i) [
   | inl row ↦ omega (arith, row.1, mul-add-lt i (count_of b) k b.short_length row.0 below)
   | inr o ↦ elim o [
@@ -140,18 +140,18 @@ shortest_is v l b are =
 
 -- Steps of writing a block.
 
-pub put_written : (b : Blocks) (k i p : ℕ) (words bytes : List ℕ) → p ≡ place_of b k i → k < count_of b → p < length words
-    → ((j : ℕ) → j < i → get_or words (place_of b k j) 0 ≡ get_or bytes j 0)
-    → (j : ℕ) → j < i + 1 → get_or (set words p (get_or bytes i 0)) (place_of b k j) 0 ≡ get_or bytes j 0
+pub put_written : (b : Blocks) (k i p : ℕ) (words bytes : List ℕ) → p ≡ codeword_place b k i → k < count_of b → p < length words
+    → ((j : ℕ) → j < i → get_or words (codeword_place b k j) 0 ≡ get_or bytes j 0)
+    → (j : ℕ) → j < i + 1 → get_or (set words p (get_or bytes i 0)) (codeword_place b k j) 0 ≡ get_or bytes j 0
 put_written b k i p words bytes at below inside before = below_more _ _
-    (λ j less. get_or-set_other words p (place_of b k j) (get_or bytes i 0) 0 (λ e. absurd (omega (arith, less, (same_place b k k j i below below (e ∙ at)).1))) ∙ before j less)
+    (λ j less. get_or-set_other words p (codeword_place b k j) (get_or bytes i 0) 0 (λ e. absurd (omega (arith, less, (same_place b k k j i below below (e ∙ at)).1))) ∙ before j less)
     (ap (λ q. get_or (set words p (get_or bytes i 0)) q 0) (sym at) ∙ get_or-set_same words p (get_or bytes i 0) 0 inside)
 
-pub put_others : (b : Blocks) (k i p x : ℕ) (words old : List ℕ) → p ≡ place_of b k i → k < count_of b
-    → ((other j : ℕ) → other < count_of b → other ≢ k → get_or words (place_of b other j) 0 ≡ get_or old (place_of b other j) 0)
-    → (other j : ℕ) → other < count_of b → other ≢ k → get_or (set words p x) (place_of b other j) 0 ≡ get_or old (place_of b other j) 0
+pub put_others : (b : Blocks) (k i p x : ℕ) (words old : List ℕ) → p ≡ codeword_place b k i → k < count_of b
+    → ((other j : ℕ) → other < count_of b → other ≢ k → get_or words (codeword_place b other j) 0 ≡ get_or old (codeword_place b other j) 0)
+    → (other j : ℕ) → other < count_of b → other ≢ k → get_or (set words p x) (codeword_place b other j) 0 ≡ get_or old (codeword_place b other j) 0
 put_others b k i p x words old at below before = λ other j under apart.
-    get_or-set_other words p (place_of b other j) x 0 (λ e. apart (same_place b other k j i under below (e ∙ at)).0) ∙ before other j under apart
+    get_or-set_other words p (codeword_place b other j) x 0 (λ e. apart (same_place b other k j i under below (e ∙ at)).0) ∙ before other j under apart
 
 pub put_high : (words : List ℕ) (p x : ℕ) → p < length words → AreHigh words → x % 16 ≡ 0 → AreHigh (set words p x)
 put_high words p x inside high h = λ i. elim (cases_eq i p) [

@@ -11,7 +11,7 @@ use Rattle.qrcode_layout.specs.Patterns.{is_functional_place}
 use Rattle.qrcode_layout.specs.Stream.{zigzag_place, zigzag, free_places, right_column}
 use Rattle.qrcode_layout.proofs.Zigzag.{half, side_odd}
 use Rattle.qrcode_damage.specs.Areas.{marks}
-use Rattle.qrcode_damage.specs.Counting.{marked, mark_at}
+use Rattle.qrcode_damage.specs.Counting.{area_marks, mark_at}
 
 pair_lt : (h t : ℕ) → t < (2 * h + 1) * (2 * h) → t / (2 * (2 * h + 1)) < h
 pair_lt h t lt = (div-lt_iff_lt-mul {k = 2 * (2 * h + 1)} {x = t} {y = h} (omega arith)).1 (omega arith)
@@ -50,13 +50,13 @@ downwards v w t column e c z =
     (sym (ap (λ (b : Bool). cond {A = ℕ} b (k - 1 - t % (2 * k) / 2) (t % (2 * k) / 2)) (ne_eqb (t / (2 * k) % 2) 0 odd))))
     c z
 
-pub none_marked : (v : Version) (area : ℕ → ℕ → Bool) → marked v area 0 ≡ []
-unfolding marked
+pub none_marked : (v : Version) (area : ℕ → ℕ → Bool) → area_marks v area 0 ≡ []
+unfolding area_marks
 none_marked v area = refl
 
 -- appending one step
-pub marked_more : (v : Version) (area : ℕ → ℕ → Bool) (t : ℕ) → marked v area (t + 1) ≡ marked v area t ++ mark_at v area (zigzag_place v t)
-unfolding marked
+pub marked_more : (v : Version) (area : ℕ → ℕ → Bool) (t : ℕ) → area_marks v area (t + 1) ≡ area_marks v area t ++ mark_at v area (zigzag_place v t)
+unfolding area_marks
 marked_more v area t =
     let m = λ (p : ℕ × ℕ). area p.0 p.1 in
     let free = λ (p : ℕ × ℕ). not (is_functional_place v p.0 p.1) in
@@ -69,8 +69,8 @@ marked_more v area t =
       go m x true = refl
       go m x false = refl
 
-pub all_marked : (v : Version) (area : ℕ → ℕ → Bool) (t : ℕ) → t ≡ side v * (side v - 1) → marked v area t ≡ marks v area
-unfolding marked marks free_places zigzag
+pub all_marked : (v : Version) (area : ℕ → ℕ → Bool) (t : ℕ) → t ≡ side v * (side v - 1) → area_marks v area t ≡ marks v area
+unfolding area_marks marks free_places zigzag
 all_marked v area t e = ap (λ n. map (λ (p : ℕ × ℕ). area p.0 p.1) (filter (λ (p : ℕ × ℕ). not (is_functional_place v p.0 p.1)) (map (zigzag_place v) (range_with_len 0 n)))) e
 
 -- counting one place more

@@ -17,8 +17,8 @@ use Rattle.qrcode_layout.proofs.Agreements.{format_places_are_no_patterns}
 use Rattle.qrcode_layout.proofs.FigurePlaces.{any_has, normal_functional}
 use Rattle.qrcode_layout.proofs.Formats.{within}
 use Rattle.qrcode_layout.proofs.FormatPlaces.{normal_cases, normal_index, format_copies_are_indexed}
-use Rattle.qrcode_damage.specs.Damage.{upper_place, lower_place, place_at, has_version_word, version_copies, is_version_place, is_pattern_place, pattern_places}
-use Rattle.qrcode_damage.specs.Errors.{is_set, is_version_wrong, is_format_wrong, is_pattern_wrong, is_free_wrong, wrong_in, is_wrong, AreErrors}
+use Rattle.qrcode_damage.specs.Damage.{upper_place, lower_place, module_place, has_version_word, version_copies, is_version_place, is_pattern_place, pattern_places}
+use Rattle.qrcode_damage.specs.Errors.{is_set, is_version_wrong, is_format_wrong, is_pattern_wrong, is_free_wrong, is_wrong_by_bit, is_wrong, AreErrors}
 use Rattle.qrcode_damage.specs.declared.damage.Damage.{Damage}
 use Rattle.qrcode_damage.specs.declared.errors.Errors.{Errors}
 use Rattle.qrcode_damage.proofs.Counted.{all_along, all_filtered, count_filtered, counted_along}
@@ -27,9 +27,9 @@ abbrev wrong_at : Version → Errors → ℕ × ℕ → Bool
 wrong_at v e p = is_wrong v e p.0 p.1
 
 -- by the format word's bit at this place, if any
-pub wrong_by_index : (v : Version) (e : Errors) (x y : ℕ) (o : Option ℕ) → format_index v x y ≡ o → is_wrong v e x y ≡ wrong_in v e x y o
+pub wrong_by_index : (v : Version) (e : Errors) (x y : ℕ) (o : Option ℕ) → format_index v x y ≡ o → is_wrong v e x y ≡ is_wrong_by_bit v e x y o
 unfolding is_wrong
-wrong_by_index v e x y o here = ap (wrong_in v e x y) here
+wrong_by_index v e x y o here = ap (is_wrong_by_bit v e x y) here
 
 format_is_functional : (v : Version) (x y i : ℕ) → format_index v x y ≡ Some i → is_functional_place v x y ≡ true
 unfolding is_functional_place
@@ -79,8 +79,8 @@ pub patterns_counted : (v : Version) (l : EcLevel) (d : Damage) (e : Errors) →
 unfolding pattern_places
 patterns_counted v l d e valid are =
     let w = side v in
-    count_filtered (λ (p : ℕ × ℕ). is_pattern_place v p.0 p.1) (wrong_at v e) (map (place_at w) (range_with_len 0 (w * w)))
-    ∙ counted_along (λ (p : ℕ × ℕ). is_pattern_place v p.0 p.1 && wrong_at v e p) (place_at w) (w * w) e.patterns.items are.patterns.all.long
+    count_filtered (λ (p : ℕ × ℕ). is_pattern_place v p.0 p.1) (wrong_at v e) (map (module_place w) (range_with_len 0 (w * w)))
+    ∙ counted_along (λ (p : ℕ × ℕ). is_pattern_place v p.0 p.1 && wrong_at v e p) (module_place w) (w * w) e.patterns.items are.patterns.all.long
     (λ i below. go i (is_pattern_place v (i % w) (i / w)) refl)
     ∙ are.patterns.all.wrong where
       go : (i : ℕ) (b : Bool) → is_pattern_place v (i % side v) (i / side v) ≡ b
@@ -94,8 +94,8 @@ pub patterns_inside : (v : Version) → AllByRecursion (λ p. IsInside v p.0 p.1
 unfolding pattern_places
 patterns_inside v =
     let w = side v in
-    all_filtered (λ p. IsInside v p.0 p.1) (λ p. is_pattern_place v p.0 p.1) (map (place_at w) (range_with_len 0 (w * w)))
-    (all_along (λ p. IsInside v p.0 p.1) (place_at w) 0 (w * w)
+    all_filtered (λ p. IsInside v p.0 p.1) (λ p. is_pattern_place v p.0 p.1) (map (module_place w) (range_with_len 0 (w * w)))
+    (all_along (λ p. IsInside v p.0 p.1) (module_place w) 0 (w * w)
     (λ i below. (mod-lt i (some v), (div-lt_iff_lt-mul {k = w} {x = i} {y = w} (some v)).1 (omega (arith, below))))) where
       some : (v : Version) → 1 ≤ side v
       some (Normal n) = omega arith

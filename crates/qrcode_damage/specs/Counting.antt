@@ -8,8 +8,8 @@ use Rattle.qrcode_reader.specs.Formats.{copy_place}
 use Rattle.qrcode_reader.specs.declared.formats.FormatCopy.{FormatCopy}
 
 -- for each free place among the first `count` steps of the zigzag, whether it is in the area
-unfoldable pub marked : Version → (ℕ → ℕ → Bool) → ℕ → List Bool
-marked v area count = map (λ p. area p.0 p.1) (filter (λ p. not (is_functional_place v p.0 p.1)) (map (zigzag_place v) (range_with_len 0 count)))
+unfoldable pub area_marks : Version → (ℕ → ℕ → Bool) → ℕ → List Bool
+area_marks v area count = map (λ p. area p.0 p.1) (filter (λ p. not (is_functional_place v p.0 p.1)) (map (zigzag_place v) (range_with_len 0 count)))
 
 -- one item, whether a free place is in the area; no item for a functional place
 abbrev pub mark_at : Version → (ℕ → ℕ → Bool) → ℕ × ℕ → List Bool

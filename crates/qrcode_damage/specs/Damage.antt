@@ -39,11 +39,11 @@ is_version_place v x y = if has_version_word v then list_any (λ f. has f x y) (
 abbrev pub is_pattern_place : Version → ℕ → ℕ → Bool
 is_pattern_place v x y = is_some (pattern v x y) && not (is_version_place v x y)
 
-abbrev pub place_at : ℕ → ℕ → ℕ × ℕ  -- module i, counted row by row, of a square with w modules along a side
-place_at w i = (i % w, i / w)
+abbrev pub module_place : ℕ → ℕ → ℕ × ℕ  -- module i, counted row by row, of a square with w modules along a side
+module_place w i = (i % w, i / w)
 
 unfoldable pub pattern_places : Version → List (ℕ × ℕ)  -- all places of these patterns, row by row
-pattern_places v = filter (λ p. is_pattern_place v p.0 p.1) (map (place_at (side v)) (range_with_len 0 (side v * side v)))
+pattern_places v = filter (λ p. is_pattern_place v p.0 p.1) (map (module_place (side v)) (range_with_len 0 (side v * side v)))
 
 -- how many bits differ at these places
 abbrev pub wrong_bits : Version → List Color → List Color → List (ℕ × ℕ) → ℕ

@@ -39,13 +39,13 @@ abbrev pub is_free_wrong : Version → Errors → ℕ → ℕ → Bool
 is_free_wrong v e x y = turned_if (turns (nth_mask v 0) x y) (is_dark (color_at v e.codewords.items x y))
 
 -- the same by the format word's bit at this place, if any
-abbrev pub wrong_in : Version → Errors → ℕ → ℕ → Option ℕ → Bool
-wrong_in v e x y (Some i) = is_format_wrong e i x y
-wrong_in v e x y None =
+abbrev pub is_wrong_by_bit : Version → Errors → ℕ → ℕ → Option ℕ → Bool
+is_wrong_by_bit v e x y (Some i) = is_format_wrong e i x y
+is_wrong_by_bit v e x y None =
     if is_functional_place v x y then is_pattern_wrong e (side v) x y || is_version_wrong e (side v) x y else is_free_wrong v e x y
 
 unfoldable pub is_wrong : Version → Errors → ℕ → ℕ → Bool  -- whether the module in column x and row y is wrong
-is_wrong v e x y = wrong_in v e x y (format_index v x y)
+is_wrong v e x y = is_wrong_by_bit v e x y (format_index v x y)
 
 abbrev pub opposite_if : Bool → Color → Color
 opposite_if true color = opposite color

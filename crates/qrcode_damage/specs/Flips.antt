@@ -20,8 +20,8 @@ length_in blocks b = blocks.short_length + (if nat_le blocks.short_blocks b then
 
 -- the place of codeword i of block b among all codewords: in a row with those of the other blocks, or if it is the last data
 -- codeword of a long block, after the rows; those of error correction after all data codewords
-abbrev pub place_of : Blocks → ℕ → ℕ → ℕ
-place_of blocks b i =
+abbrev pub codeword_place : Blocks → ℕ → ℕ → ℕ
+codeword_place blocks b i =
     let count = count_of blocks in
     if nat_lt i blocks.short_length then i * count + b
     else (if nat_lt i (length_in blocks b) then blocks.short_length * count + (b - blocks.short_blocks)

@@ -2,7 +2,7 @@
 
 ghost use Rattle.std.specs.Prelude.{◌≡◌, ◌*◌, ◌<◌, length, None, IsTrue, IfOk};
 ghost use Rattle.qrcode_types.specs.Versions.{is_valid, side};
-ghost use Rattle.qrcode_damage.specs.Errors.{is_set, is_version_wrong, is_format_wrong, is_free_wrong, wrong_in, is_wrong, opposite_if, flipped};
+ghost use Rattle.qrcode_damage.specs.Errors.{is_set, is_version_wrong, is_format_wrong, is_free_wrong, is_wrong_by_bit, is_wrong, opposite_if, flipped};
 
 use qrcode_layout::masks::nth_mask;
 use qrcode_layout::patterns::{format_index, is_functional_place};
@@ -84,7 +84,7 @@ impl Errors {
         requires square { length self.now.codewords.items ≡ side version * side version }
         requires column { x < side version }
         requires row { y < side version }
-        ensures { result ≡ wrong_in version self.now x y None }
+        ensures { result ≡ is_wrong_by_bit version self.now x y None }
     {
         let width = side(version);
         if is_functional_place(version, width, x, y) {

@@ -6,7 +6,7 @@ ghost use Rattle.qrcode_types.specs.Versions.{has_level, has_half_codeword, bloc
 ghost use Rattle.qrcode_types.specs.declared.types.Version.{Version};
 ghost use Rattle.qrcode_types.specs.declared.types.EcLevel.{EcLevel};
 ghost use Rattle.qrcode_ec.specs.Blocks.{block};
-ghost use Rattle.qrcode_damage.specs.Flips.{count_wrong, AreHigh, shortest_block, length_in, place_of};
+ghost use Rattle.qrcode_damage.specs.Flips.{count_wrong, AreHigh, shortest_block, length_in, codeword_place};
 
 use crate::flips::flips;
 use crate::random::Random;
@@ -31,10 +31,10 @@ fn length_in(blocks: Blocks, b: usize) -> usize
 }
 
 // Returns the place of codeword `i` of block `b` among all codewords.
-fn place_of(blocks: Blocks, b: usize, i: usize) -> usize
+fn codeword_place(blocks: Blocks, b: usize, i: usize) -> usize
     requires block { b < count_of blocks }
     requires inside { i < length_in blocks b + blocks.ec_length }
-    ensures value { result ≡ place_of blocks b i }
+    ensures value { result ≡ codeword_place blocks b i }
     ensures inside { result < data_length_of blocks + blocks.ec_length * count_of blocks }
 {
     let count = blocks.count();
@@ -61,7 +61,7 @@ fn put_block(words: &mut [u8], blocks: Blocks, b: usize, bytes: &[u8])
     ensures half { AreHigh words.old → AreHigh bytes.now → AreHigh words.new }
 {
     for i in 0..bytes.len() {
-        words[place_of(blocks, b, i)] = bytes[i];
+        words[codeword_place(blocks, b, i)] = bytes[i];
     }
 }
 

@@ -12,7 +12,7 @@ use Rattle.qrcode_types.specs.declared.types.EcLevel.{EcLevel}
 use Rattle.qrcode_ec.specs.Blocks.{block, data_bytes}
 use Rattle.qrcode_render.proofs.Grids.{range_append}
 use Rattle.qrcode_ec.specs.Codes.{Corrects}
-use Rattle.qrcode_reader.specs.Corrected.{wrong_at, wrong_in, wrong_from, first_blocks, AreCorrected, AppendsBlock, IsFirstDamaged}
+use Rattle.qrcode_reader.specs.Corrected.{wrong_at, wrong_of_block, wrong_from, first_blocks, AreCorrected, AppendsBlock, IsFirstDamaged}
 use Rattle.qrcode_reader.specs.declared.correction.WrongCodeword.{WrongCodeword}
 
 -- one more place
@@ -32,14 +32,14 @@ pub right_here : (b : ℕ) (r c : List ℕ) (i : ℕ) → slice_index r i ≡ sl
 right_here b r c i same = sym (ap (λ t. cond t [] (record { block = b; place = i } ∷ [])) (eq-eqb (slice_index r i) (slice_index c i) same))
 
 -- one more block
-wrong_blocks_more : (b : ℕ) (rs cs : List (List ℕ)) (r c : List ℕ) → length rs ≡ length cs → wrong_from b (rs ++ r ∷ []) (cs ++ c ∷ []) ≡ wrong_from b rs cs ++ wrong_in (b + length rs) r c
-wrong_blocks_more b [] [] r c h = let z : b ≡ b + 0 = omega arith in append-nil (wrong_in b r c) ∙ ap (λ n. wrong_in n r c) z
+wrong_blocks_more : (b : ℕ) (rs cs : List (List ℕ)) (r c : List ℕ) → length rs ≡ length cs → wrong_from b (rs ++ r ∷ []) (cs ++ c ∷ []) ≡ wrong_from b rs cs ++ wrong_of_block (b + length rs) r c
+wrong_blocks_more b [] [] r c h = let z : b ≡ b + 0 = omega arith in append-nil (wrong_of_block b r c) ∙ ap (λ n. wrong_of_block n r c) z
 wrong_blocks_more b [] (y ∷ ys) r c h = absurd (omega (arith, h))
 wrong_blocks_more b (x ∷ xs) [] r c h = absurd (omega (arith, h))
 wrong_blocks_more b (x ∷ xs) (y ∷ ys) r c h =
     let z : b + 1 + length xs ≡ b + length (x ∷ xs) = omega arith in
-    ap (λ t. wrong_in b x y ++ t) (wrong_blocks_more (b + 1) xs ys r c (omega (arith, h)) ∙ ap (λ n. wrong_from (b + 1) xs ys ++ wrong_in n r c) z)
-    ∙ sym (append_assoc (wrong_in b x y) (wrong_from (b + 1) xs ys) (wrong_in (b + length (x ∷ xs)) r c))
+    ap (λ t. wrong_of_block b x y ++ t) (wrong_blocks_more (b + 1) xs ys r c (omega (arith, h)) ∙ ap (λ n. wrong_from (b + 1) xs ys ++ wrong_of_block n r c) z)
+    ∙ sym (append_assoc (wrong_of_block b x y) (wrong_from (b + 1) xs ys) (wrong_of_block (b + length (x ∷ xs)) r c))
 
 pub none_corrected : (v : Version) (l : EcLevel) (words bytes : List ℕ) (wrong : List WrongCodeword) → bytes ≡ [] → wrong ≡ [] → AreCorrected v l words 0 bytes wrong
 unfolding data_bytes
@@ -62,8 +62,8 @@ corrected_more v l words n old new wrong more a b =
           ∙ ap (λ x. flat_map bytes_of_block a.corrected ++ x) (sym (append-nil (bytes_of_block b.corrected)))
           ∙ sym (flat_map-append bytes_of_block a.corrected (b.corrected ∷ []));
       places =
-          b.places ∙ ap (λ x. x ++ wrong_in n (block v l words n) b.corrected) a.places
-          ∙ ap (λ m. wrong_from 0 front a.corrected ++ wrong_in m (block v l words n) b.corrected) (sym count)
+          b.places ∙ ap (λ x. x ++ wrong_of_block n (block v l words n) b.corrected) a.places
+          ∙ ap (λ m. wrong_from 0 front a.corrected ++ wrong_of_block m (block v l words n) b.corrected) (sym count)
           ∙ sym (wrong_blocks_more 0 front a.corrected (block v l words n) b.corrected (length_all_zip R front a.corrected a.corrects))
           ∙ ap (λ rs. wrong_from 0 rs (a.corrected ++ b.corrected ∷ [])) (sym longer);
     }

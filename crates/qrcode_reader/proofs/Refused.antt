@@ -20,7 +20,7 @@ use Rattle.qrcode.proofs.Sides.{valid_of, same_version, same_root}
 use Rattle.qrcode_reader.specs.Formats.{HasFormat}
 use Rattle.qrcode_reader.specs.Corrected.{AreCorrected, IsFirstDamaged}
 use Rattle.qrcode_reader.specs.Refusals.{unread_of}
-use Rattle.qrcode_reader.specs.Readings.{IsBitReading, IsReading, IsBitCause, IsCause}
+use Rattle.qrcode_reader.specs.Readings.{IsBitReading, IsReading, IsBitCause, IsUnreadCause}
 use Rattle.qrcode_reader.specs.declared.correction.WrongCodeword.{WrongCodeword}
 use Rattle.qrcode_reader.specs.declared.refusals.Unread.{Unread}
 use Rattle.qrcode_reader.specs.declared.refusals.Unread.TheVariants.{NoSuchSide, NoFormat, Damaged, NotSpelled, OutOfMemory}
@@ -95,7 +95,7 @@ blocked s v l k words e square format same refused = elim refused [
       subst (λ e. IsBitCause s e) (sym found.1) is
 ]
 
-pub bytes_only_memory : (s : List Color) (e : Unread) → IsCause s e → (bytes : List ℕ) → Reads s bytes → e ≡ OutOfMemory
+pub bytes_only_memory : (s : List Color) (e : Unread) → IsUnreadCause s e → (bytes : List ℕ) → Reads s bytes → e ≡ OutOfMemory
 bytes_only_memory s NotSpelled cause bytes q =
     let e = cause.only.only q.version q.level q.bits q.read in
     absurd (cause.none bytes (subst (λ b. Spells cause.version b bytes) e.2 (subst (λ v. Spells v q.bits bytes) e.0 q.spelled)))
@@ -115,9 +115,9 @@ reading s v l k bits given bytes wrong read e spells =
 
 -- if the bits decode to no bytes, that is the cause
 pub unspelled : (s : List Color) (v : Version) (l : EcLevel) (bits given : List Bool) (e : spelling.Unspelled) → ReadsBitsOnly s v l bits → given ≡ bits
-    → (e ≡ spelling.TheVariants.OutOfMemory) ⊎ ((e ≡ spelling.TheVariants.NotSpelled) × ((bytes : List ℕ) → ¬ Spells v given bytes)) → IsCause s (unread_of e)
+    → (e ≡ spelling.TheVariants.OutOfMemory) ⊎ ((e ≡ spelling.TheVariants.NotSpelled) × ((bytes : List ℕ) → ¬ Spells v given bytes)) → IsUnreadCause s (unread_of e)
 unspelled s v l bits given e only same why =
-    caused (λ e. IsCause s (unread_of e)) ((bytes : List ℕ) → ¬ Spells v given bytes) spelling.TheVariants.OutOfMemory spelling.TheVariants.NotSpelled e tt
+    caused (λ e. IsUnreadCause s (unread_of e)) ((bytes : List ℕ) → ¬ Spells v given bytes) spelling.TheVariants.OutOfMemory spelling.TheVariants.NotSpelled e tt
     (λ none. record { version = v; level = l; bits = bits; only = only; none = subst (λ b. (bytes : List ℕ) → ¬ Spells v b bytes) same none }) why
 
 -- a damaged symbol decodes to the bytes that the symbol encodes

@@ -12,14 +12,14 @@ use Rattle.qrcode_reader.specs.declared.correction.WrongCodeword.{WrongCodeword}
 abbrev pub wrong_at : ℕ → List ℕ → List ℕ → ℕ → List WrongCodeword
 wrong_at b r c i = if slice_index r i == slice_index c i then [] else record { block = b; place = i } ∷ []
 
-unfoldable pub wrong_in : ℕ → List ℕ → List ℕ → List WrongCodeword  -- all wrong codewords of block b
-wrong_in b r c = flat_map (wrong_at b r c) (range_with_len 0 (length r))
+unfoldable pub wrong_of_block : ℕ → List ℕ → List ℕ → List WrongCodeword  -- all wrong codewords of block b
+wrong_of_block b r c = flat_map (wrong_at b r c) (range_with_len 0 (length r))
 
 -- all wrong codewords of the blocks, which are numbered from b on
 abbrev pub wrong_from : ℕ → List (List ℕ) → List (List ℕ) → List WrongCodeword
 wrong_from b [] cs = []
 wrong_from b (r ∷ rs) [] = []
-wrong_from b (r ∷ rs) (c ∷ cs) = wrong_in b r c ++ wrong_from (b + 1) rs cs
+wrong_from b (r ∷ rs) (c ∷ cs) = wrong_of_block b r c ++ wrong_from (b + 1) rs cs
 
 abbrev pub first_blocks : Version → EcLevel → List ℕ → ℕ → List (List ℕ)  -- the first count blocks
 first_blocks v l words count = map (block v l words) (range_with_len 0 count)
@@ -36,7 +36,7 @@ pub record AppendsBlock (n number : ℕ) (block old_bytes new_bytes : List ℕ) 
   pub corrected : List ℕ
   pub corrects : Corrects block n corrected
   pub holds : new_bytes ≡ old_bytes ++ take (length corrected - n) corrected
-  pub places : new_wrong ≡ old_wrong ++ wrong_in number block corrected
+  pub places : new_wrong ≡ old_wrong ++ wrong_of_block number block corrected
 
 -- block b cannot be corrected, and each block before it can
 pub record IsFirstDamaged (v : Version) (l : EcLevel) (words : List ℕ) (b : ℕ) : Type 0 where

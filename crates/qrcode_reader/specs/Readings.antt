@@ -101,9 +101,9 @@ IsBitCause s (Damaged b) = HasDamagedBlock s b
 IsBitCause s NotSpelled = ⊥
 IsBitCause s OutOfMemory = Unit
 
-abbrev pub IsCause : List Color → Unread → Type 0  -- why a square does not decode to bytes
-IsCause s NotSpelled = SpellsNothing s
-IsCause s e = IsBitCause s e
+abbrev pub IsUnreadCause : List Color → Unread → Type 0  -- why a square does not decode to bytes
+IsUnreadCause s NotSpelled = SpellsNothing s
+IsUnreadCause s e = IsBitCause s e
 
 abbrev pub IsPartsCause : List Color → Unread → Type 0  -- why a square does not decode to headers and segments
 IsPartsCause s NotSpelled = HoldsNoParts s

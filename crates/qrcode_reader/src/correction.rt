@@ -3,7 +3,7 @@
 ghost use Rattle.std.specs.Prelude.{◌≡◌, ◌⊎◌, ℕ, ◌≤◌, ◌++◌, List, length, IsTrue, OnOk, IfOk, IfErr};
 ghost use Rattle.qrcode_types.specs.Versions.{has_level, block_lengths};
 ghost use Rattle.qrcode_ec.specs.Codes.{Corrects};
-ghost use Rattle.qrcode_reader.specs.Corrected.{AppendsBlock, AreCorrected, IsFirstDamaged, wrong_in};
+ghost use Rattle.qrcode_reader.specs.Corrected.{AppendsBlock, AreCorrected, IsFirstDamaged, wrong_of_block};
 ghost use Rattle.qrcode_reader.specs.declared.refusals.Unread.TheVariants.{Damaged, OutOfMemory};
 
 use crate::blocks::block;
@@ -32,7 +32,7 @@ fn push_wrong(
 ) -> Result<(), AllocError>
     requires { length before.now ≡ length after.now }
     ensures { OnOk result
-        (wrong.new.items ≡ wrong.old.items ++ wrong_in block before.now after.now) }
+        (wrong.new.items ≡ wrong.old.items ++ wrong_of_block block before.now after.now) }
 {
     for place in 0..before.len() {
         if before[place] != after[place] {

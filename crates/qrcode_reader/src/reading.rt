@@ -7,7 +7,7 @@ ghost use Rattle.qrcode_types.specs.declared.types.Color.{Color};
 ghost use Rattle.qrcode_symbol.specs.Symbol.{IsDamaged};
 ghost use Rattle.qrcode_symbol.specs.Reading.{ReadsBits};
 ghost use Rattle.qrcode.specs.Reading.{Reads, EncodesBits, EncodesBytes};
-ghost use Rattle.qrcode_reader.specs.Readings.{IsBitReading, IsReading, IsBitCause, IsCause};
+ghost use Rattle.qrcode_reader.specs.Readings.{IsBitReading, IsReading, IsBitCause, IsUnreadCause};
 ghost use Rattle.qrcode_reader.specs.declared.refusals.Unread.TheVariants.{OutOfMemory};
 
 use crate::bits::data_bits;
@@ -103,7 +103,7 @@ pub fn read(alloc: Global, modules: &[Color]) -> Result<Reading, Unread>
         read.version read.ec_level read.mask read.data.items read.wrong.items) }
     ensures accepts { (bytes : List ℕ)
         → Reads modules.now bytes → IsOkUnless result OutOfMemory }
-    ensures causes { IfErr result (IsCause modules.now) }
+    ensures causes { IfErr result (IsUnreadCause modules.now) }
     // A symbol decodes to the bytes that it was made from, also within the promised damage.
     ensures gives_back { (version : Version) (level : EcLevel) (bits : List Bool)
         (bytes : List ℕ) (symbol : List Color)

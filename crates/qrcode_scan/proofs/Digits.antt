@@ -1,6 +1,7 @@
 -- Numbers in digits.
 use Rattle.std.proofs.Common.{ℕ, ◌+◌, ◌-◌, ◌*◌, ◌≤◌, List, [], ◌∷◌, true, false, if◌then◌else◌, arith}
-use Rattle.qrcode_scan.specs.Heads.{digits_from, is_digit}
+use Rattle.qrcode_types.specs.Characters.{is_digit}
+use Rattle.qrcode_scan.specs.Heads.{digits_from}
 
 -- a number with more digits is at least as large
 pub grows : (n : ℕ) (bytes : List ℕ) → n ≤ (digits_from n bytes).0

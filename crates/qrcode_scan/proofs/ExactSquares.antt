@@ -9,7 +9,7 @@ use Rattle.qrcode_render.specs.Layout.{layout}
 use Rattle.qrcode_render.specs.Picture.{is_dark_pixel}
 use Rattle.qrcode_scan.specs.Grids.{colours_at, column_at, row_at}
 use Rattle.qrcode_scan.specs.Squares.{mark_at}
-use Rattle.qrcode_scan.specs.Wholes.{BeginsAt, HasFinder, HasPatterns, IsGridAt, IsGridOf, IsWholeIn, Whole, corner_start, count_of, dark_in, finder_dark, light_row, marked}
+use Rattle.qrcode_scan.specs.Wholes.{BeginsAt, HasFinder, HasPatterns, IsGridAt, IsGridOf, IsWholeIn, Whole, corner_start, count_of, has_dark, finder_dark, light_row, marked}
 use Rattle.qrcode_scan.specs.declared.grids.Grid.{Grid}
 use Rattle.qrcode_scan.proofs.Framed.{module_pixel}
 use Rattle.qrcode_scan.proofs.Sampled.{column_of, grid_inside, row_of, sampled_is}
@@ -25,14 +25,14 @@ behind_none i = omega arith
 
 -- each pixel of a module has its colour
 seen_module : (b : Bitmap) (w : Whole) (i j x y : ℕ) → IsWholeIn b w → i < count_of w → j < count_of w → x < w.scale → y < w.scale
-    → mark_at b (w.left + (i * w.scale + x)) (w.top + (j * w.scale + y)) ≡ dark_in w i j
+    → mark_at b (w.left + (i * w.scale + x)) (w.top + (j * w.scale + y)) ≡ has_dark w i j
 seen_module b w i j x y is left top inside low =
     is.shown (i * w.scale + x) (j * w.scale + y) (in_square i x (count_of w) w.scale left inside) (in_square j y (count_of w) w.scale top low)
     ∙ ap₂ (λ (m n : ℕ). is_dark_pixel (layout (count_of w) 0 w.scale w.scale) w.modules (m * w.scale + x) (n * w.scale + y)) (behind_none i) (behind_none j)
     ∙ module_pixel (count_of w) 0 w.scale w.modules i j x y left top inside low
 
 -- and so has the one at its centre
-centre_seen : (b : Bitmap) (w : Whole) (g : Grid) (i j : ℕ) → IsWholeIn b w → IsGridOf w g → i < count_of w → j < count_of w → marked b g i j ≡ dark_in w i j
+centre_seen : (b : Bitmap) (w : Whole) (g : Grid) (i j : ℕ) → IsWholeIn b w → IsGridOf w g → i < count_of w → j < count_of w → marked b g i j ≡ has_dark w i j
 centre_seen b w g i j is at left top =
     let some = is.at_least in
     let half : w.scale / 2 < w.scale = omega (arith, some) in
@@ -47,7 +47,7 @@ corner_inside is_last w i low = let fits = corner_fits is_last (count_of w) (ome
 
 -- the grid of a square shows its finder patterns
 finder_seen : (b : Bitmap) (w : Whole) (g : Grid) (r l : Bool) → IsWholeIn b w → IsGridOf w g
-    → HasFinder (dark_in w) (corner_start r (count_of w)) (corner_start l (count_of w)) → HasFinder (marked b g) (corner_start r g.count) (corner_start l g.count)
+    → HasFinder (has_dark w) (corner_start r (count_of w)) (corner_start l (count_of w)) → HasFinder (marked b g) (corner_start r g.count) (corner_start l g.count)
 finder_seen b w g r l is at has =
     subst (λ n. HasFinder (marked b g) (corner_start r n) (corner_start l n)) (sym at.count)
     (λ i j left top. centre_seen b w g (corner_start r (count_of w) + i) (corner_start l (count_of w) + j) is at (corner_inside r w i left) (corner_inside l w j top) ∙ has i j left top)

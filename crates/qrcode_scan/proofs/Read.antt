@@ -13,7 +13,7 @@ use Rattle.std.proofs.lemmas.List.Edits.{get_or-insert_at, get_or-insert_below, 
 use Rattle.std.proofs.lemmas.Bool.{cases_lt}
 use Rattle.std.proofs.lemmas.List.{get_or_read}
 use Rattle.qrcode_scan.specs.Codes.{AreApart, AreOther, AreTwo, AreCodesIn, FindsWholes, HasGrid, IsApartFrom, IsCodeIn, IsFoundAs, IsFoundBy, IsMissedIn, IsMissedOf, IsProbable, Overlaps}
-use Rattle.qrcode_scan.specs.Scans.{IsReadAs, HasNoWhole, IsScanOf, IsSeenAs, IsSquareOf}
+use Rattle.qrcode_scan.specs.Scans.{IsScanRead, HasNoWhole, IsScanOf, IsSeenAs, IsSquareOf}
 use Rattle.qrcode_scan.specs.Wholes.{HasMany, IsGridOf, ShowsCode, Whole}
 use Rattle.qrcode_scan.specs.declared.scanning.Scan.{Scan}
 use Rattle.qrcode_scan.specs.declared.codes.Codes.{Codes}
@@ -96,7 +96,7 @@ no_code b i codes none no_missed =
 
 -- only the code in a plain margin
 pub only_code : (b : Bitmap) (i : Bool) (codes : Codes) (scan : Scan) → codes.scans.items ≡ scan ∷ [] → codes.missed.items ≡ [] → IsSquareOf scan b → scan.grid ≡ None
-    → scan.is_inverted ≡ i → IsReadAs scan → AreCodesIn b i codes
+    → scan.is_inverted ≡ i → IsScanRead scan → AreCodesIn b i codes
 only_code b i codes scan same no_missed square clean inverted read = record {
   scans = subst (All (IsCodeIn b i)) (sym same)
       (All-cons (IsCodeIn b i) scan [] (record { inverted = inverted; square = record { found = inl (clean, square) }; read = read }) (All-nil (IsCodeIn b i)));

@@ -1,7 +1,8 @@
 -- What follows a picture is the end of its file.
 use Rattle.std.proofs.Common.{◌≡◌, ℕ, ◌+◌, ◌-◌, ◌*◌, ◌==◌, ◌&&◌, ◌||◌, nat_le, Bool, List, [], ◌∷◌, ◌++◌, true, false, if◌then◌else◌, not, arith, refl, sym, ap, ◌∙◌, drop, take, append_assoc, append-nil, length-append}
 use Rattle.std.proofs.lemmas.List.{take-append-drop, length-take}
-use Rattle.qrcode_scan.specs.Heads.{after_space, digits_from, is_digit, is_white, is_ended, sides_of, greatest_of, HasSides}
+use Rattle.qrcode_types.specs.Characters.{is_digit}
+use Rattle.qrcode_scan.specs.Heads.{after_space, digits_from, is_white, is_ended, sides_of, greatest_of, HasSides}
 use Rattle.qrcode_scan.specs.Files.{bits_length}
 use Rattle.qrcode_scan.specs.Several.{behind_plain, behind_raster, behind_figures, behind_bits, behind_greys, grey_length, has_sides, IsCut}
 

@@ -8,7 +8,7 @@ use Rattle.qrcode_reader.specs.Readings.{IsPartsCause, ReadsParts}
 use Rattle.qrcode_reader.specs.declared.spell.parts.Part.{Part}
 use Rattle.qrcode_reader.specs.declared.refusals.Unread as reading
 use Rattle.qrcode_reader.specs.declared.positions.Position.{Position}
-use Rattle.qrcode_scan.specs.Scans.{IsFoundIn, IsReadAs, IsSeenAs}
+use Rattle.qrcode_scan.specs.Scans.{IsFoundIn, IsScanRead, IsSeenAs}
 use Rattle.qrcode_scan.specs.declared.scanning.Scan.{Scan}
 use Rattle.qrcode_scan.specs.Wholes.{HasMany, IsGridOf, ShowsCode, Whole}
 use Rattle.qrcode_scan.specs.declared.codes.Codes.{Codes}
@@ -22,7 +22,7 @@ use Rattle.qrcode_scan.specs.declared.codes.Found.TheVariants.{Nothing, Code, Mi
 pub record IsCodeIn (b : Bitmap) (is_inverted : Bool) (scan : Scan) : Type 0 where
   pub inverted : scan.is_inverted ≡ is_inverted
   pub square : IsFoundIn scan b
-  pub read : IsReadAs scan
+  pub read : IsScanRead scan
 
 -- why a square does not decode that has format information, so it is probably a code
 abbrev pub IsProbable : reading.Unread → Type 0
@@ -54,8 +54,8 @@ inner_side one other = (one * one + other * other) / max (one + other) 1
 
 -- The place of a grid in pixels: the square of its modules. Of a turned grid it is the largest upright square in that one with the same middle. x and y
 -- are twice the middle, in fractions of a pixel: halfway between the middles of the pixels at the centres of the first and the last module.
-abbrev pub place_of : Grid → PixelBounds
-place_of g =
+abbrev pub bounds_of : Grid → PixelBounds
+bounds_of g =
     let parts = max g.parts 1 in
     let width = g.count * inner_side g.across g.fall in
     let height = g.count * inner_side g.down g.lean in
@@ -75,15 +75,15 @@ AreApart p q = (p.right ≤ q.left) ⊎ ((q.right ≤ p.left) ⊎ ((p.bottom ≤
 
 -- the places of two squares that do not decode have no pixel in common; so none is told twice
 abbrev pub AreOther : missed.Missed → missed.Missed → Type 0
-AreOther one other = AreApart (place_of other.grid) (place_of one.grid)
+AreOther one other = AreApart (bounds_of other.grid) (bounds_of one.grid)
 
 -- the code was not found by finder patterns, or its place has no pixel in common with that of this grid
 abbrev pub IsApartFrom : Grid → Scan → Type 0
-IsApartFrom g scan = (other : Grid) → scan.grid ≡ Some other → AreApart (place_of other) (place_of g)
+IsApartFrom g scan = (other : Grid) → scan.grid ≡ Some other → AreApart (bounds_of other) (bounds_of g)
 
 -- the code was found by finder patterns, and its place has pixels in common with that of this grid
 abbrev pub Overlaps : Grid → Scan → Type 0
-Overlaps g scan = (other : Grid) × ((scan.grid ≡ Some other) × ¬ AreApart (place_of other) (place_of g))
+Overlaps g scan = (other : Grid) × ((scan.grid ≡ Some other) × ¬ AreApart (bounds_of other) (bounds_of g))
 
 -- the places of two codes that were found by finder patterns have no pixel in common; so no code is found twice
 abbrev pub AreTwo : Scan → Scan → Type 0

@@ -1,11 +1,9 @@
 -- Headers of picture files: numbers after white space and comments.
 use Rattle.std.specs.Prelude.{ℕ, ◌+◌, ◌-◌, ◌*◌, ◌==◌, ◌≤◌, nat_le, Bool, true, false, not, ◌||◌, ◌&&◌, List, [], ◌∷◌, drop, if◌then◌else◌}
+use Rattle.qrcode_types.specs.Characters.{is_digit}
 
 abbrev pub is_white : ℕ → Bool  -- white space
 is_white c = c == 32 || (nat_le 9 c && nat_le c 13)
-
-abbrev pub is_digit : ℕ → Bool  -- a decimal digit
-is_digit c = nat_le 48 c && nat_le c 57
 
 -- what follows white space and comments, each from # to the end of its line; within: the bytes begin in a comment
 unfoldable pub after_space : Bool → List ℕ → List ℕ

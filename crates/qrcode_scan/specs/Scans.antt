@@ -45,7 +45,7 @@ headers_in parts = flat_map header_in parts
 -- How a code's square decodes: to headers and segments, in the first position in which it has some. The bytes are those of the segments, after FNC1
 -- with separators. Without headers they are also the first reading of the square as bytes; with FNC1 in front as the only header, they are what a
 -- reader finds after it, and no others.
-pub record IsReadAs (scan : Scan) : Type 0 where
+pub record IsScanRead (scan : Scan) : Type 0 where
   pub bytes : List ℕ
   pub first : IsFirstPartsReading scan.square.count scan.square.modules.items scan.any.position scan.any.is_inverted scan.any.reading.version
       scan.any.reading.ec_level scan.any.reading.mask bytes scan.parts.items scan.any.reading.wrong.items
@@ -140,7 +140,7 @@ pub record IsScanOf (bytes : List ℕ) (scan : Scan) : Type 0 where
   pub pixels : Bitmap
   pub seen : IsSeenAs bytes pixels scan.is_inverted
   pub square : IsFoundIn scan pixels
-  pub read : IsReadAs scan
+  pub read : IsScanRead scan
 
 -- the error for pixels whose square with `count` modules a side does not decode
 abbrev pub unread_as : ℕ → reading.Unread → ScanError

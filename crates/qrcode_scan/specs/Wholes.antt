@@ -46,8 +46,8 @@ pub record Whole : Type 0 where
 abbrev pub count_of : Whole → ℕ  -- the modules along a side of a Normal symbol
 count_of w = 17 + 4 * w.version
 
-abbrev pub dark_in : Whole → ℕ → ℕ → Bool  -- the module in column i and row j is dark
-dark_in w i j = is_dark (slice_index_or w.modules (j * count_of w + i) Light)
+abbrev pub has_dark : Whole → ℕ → ℕ → Bool  -- the module in column i and row j is dark
+has_dark w i j = is_dark (slice_index_or w.modules (j * count_of w + i) Light)
 
 -- The pixels show the square: from its first pixel on they are the picture of its modules without a quiet zone. It has finder patterns in three
 -- corners. Whatever other pixels show is free.
@@ -59,7 +59,7 @@ pub record IsWholeIn (b : Bitmap) (w : Whole) : Type 0 where
   pub down : w.top + count_of w * w.scale ≤ b.down
   pub shown : (x y : ℕ) → x < count_of w * w.scale → y < count_of w * w.scale
       → mark_at b (w.left + x) (w.top + y) ≡ is_dark_pixel (layout (count_of w) 0 w.scale w.scale) w.modules x y
-  pub finders : HasFinders (dark_in w) (count_of w) w.is_right w.is_lower
+  pub finders : HasFinders (has_dark w) (count_of w) w.is_right w.is_lower
 
 -- the pixels show a square that decodes in some position
 pub record ShowsCode (b : Bitmap) (w : Whole) : Type 0 where

@@ -3,7 +3,7 @@
 ghost use Rattle.std.specs.Prelude.{◌^◌, ◌+◌, ◌-◌, ◌/◌, ◌≡◌, ◌≤◌, ◌<◌, ◌⊎◌, ◌++◌, ◌∷◌, [], ℕ, Some, All, AllPairs, Any, insert, length, IsTrue, IsFalse, IfOk, IfErr, OnOk};
 ghost use Rattle.qrcode_reader.specs.declared.refusals.Unread.TheVariants.{OutOfMemory};
 ghost use Rattle.qrcode_scan.specs.declared.scanning.ScanError.TheVariants.{OutOfMemory as NoMemory};
-ghost use Rattle.qrcode_scan.specs.Codes.{inner_side, place_of, AreApart, AreCodesIn, AreOther, AreTwo, FindsWholes, FindsWholesOf, HasGrid, IsApartFrom, IsCodeFound, IsFoundAs, IsFoundBy, IsMissedOf, IsProbable, Overlaps};
+ghost use Rattle.qrcode_scan.specs.Codes.{inner_side, bounds_of, AreApart, AreCodesIn, AreOther, AreTwo, FindsWholes, FindsWholesOf, HasGrid, IsApartFrom, IsCodeFound, IsFoundAs, IsFoundBy, IsMissedOf, IsProbable, Overlaps};
 ghost use Rattle.qrcode_scan.specs.Wholes.{HasMany, IsGridOf, IsWholeIn, ShowsCode, Whole};
 ghost use Rattle.qrcode_scan.specs.declared.codes.Found.TheVariants.{Nothing, Missed as MissedAt};
 ghost use Rattle.qrcode_scan.specs.Scans.{has_faults, HasNoWhole, IsNotClean, IsScanOf, IsUnreadPicture, IsUnreadIn};
@@ -31,10 +31,10 @@ pub struct Missed {
 impl Missed {
     /// Returns the pixel column and row of its upper left corner.
     pub fn corner(&self) -> (usize, usize)
-        ensures left { result.0 ≡ (place_of self.now.grid).left }
-        ensures top { result.1 ≡ (place_of self.now.grid).top }
+        ensures left { result.0 ≡ (bounds_of self.now.grid).left }
+        ensures top { result.1 ≡ (bounds_of self.now.grid).top }
     {
-        let place = place_of(&self.grid);
+        let place = bounds_of(&self.grid);
         (place.left, place.top)
     }
 }
@@ -211,7 +211,7 @@ fn found_at(
         Ok(any) => any,
         Err(cause) => return Ok(unread_at(grid, cause)?),
     };
-    if is_doubtful(grid.count, &any) && !has_all_dark(pixels, place_of(grid)) {
+    if is_doubtful(grid.count, &any) && !has_all_dark(pixels, bounds_of(grid)) {
         return Ok(Found::Nothing);
     }
     let square = Square {
@@ -255,12 +255,12 @@ fn insert_code(scans: &mut Vec<Scan>, scan: Scan, grid: &Grid) -> Result<(), All
     ensures { OnOk result ((n : ℕ) × (n ≤ length scans.old.items)
         × (scans.new.items ≡ insert scans.old.items n scan)) }
 {
-    let place = place_of(grid);
+    let place = bounds_of(grid);
     let number = scans
         .iter()
         .position(|other| other
             .grid
-            .is_some_and(|other| precedes(place, place_of(&other))))
+            .is_some_and(|other| precedes(place, bounds_of(&other))))
         .unwrap_or(scans.len());
     scans.insert(number, scan)?;
     Ok(())
@@ -281,10 +281,10 @@ fn push_missed(all: &mut Vec<Missed>, missed: Missed) -> Result<(), AllocError>
 // Whether one of these squares overlaps the grid.
 fn is_among(all: &[Missed], grid: &Grid) -> bool
     ensures { IsFalse result
-        → All (λ one. AreApart (place_of grid.now) (place_of one.grid)) all.now }
+        → All (λ one. AreApart (bounds_of grid.now) (bounds_of one.grid)) all.now }
 {
     all.iter()
-        .any(|other| overlap(place_of(grid), place_of(&other.grid)))
+        .any(|other| overlap(bounds_of(grid), bounds_of(&other.grid)))
 }
 
 impl Codes {
@@ -308,14 +308,14 @@ fn is_over(scan: &Scan, grid: &Grid) -> bool
     ensures apart { IsFalse result → IsApartFrom grid.now scan.now }
 {
     match &scan.grid {
-        Some(other) => overlap(place_of(other), place_of(grid)),
+        Some(other) => overlap(bounds_of(other), bounds_of(grid)),
         None => false,
     }
 }
 
 // The pixels that a grid's modules take; of a turned grid, the largest upright square of them.
-fn place_of(grid: &Grid) -> PixelBounds
-    ensures { result ≡ place_of grid.now }
+fn bounds_of(grid: &Grid) -> PixelBounds
+    ensures { result ≡ bounds_of grid.now }
 {
     let parts = grid.parts.max(1);
     let width = grid.count * inner_side(grid.across, grid.fall);

@@ -6,7 +6,7 @@ ghost use Rattle.qrcode_scan.specs.Squares.{inverted};
 ghost use Rattle.qrcode_reader.specs.Positions.{IsFirstPartsReading};
 ghost use Rattle.qrcode_scan.specs.declared.scanning.ScanError.TheVariants.{OutOfMemory};
 ghost use Rattle.qrcode_scan.specs.HandedOn.{is_fnc1, part_on, handed_on};
-ghost use Rattle.qrcode_scan.specs.Scans.{IsPictureOf, IsReadAs, IsSeenAs, IsShownBy, IsSquareOf, IsUnreadIn, IsUnseen, has_faults, is_png, is_jpeg, unread_as};
+ghost use Rattle.qrcode_scan.specs.Scans.{IsPictureOf, IsScanRead, IsSeenAs, IsShownBy, IsSquareOf, IsUnreadIn, IsUnseen, has_faults, is_png, is_jpeg, unread_as};
 
 use crate::files::pixels_of;
 use crate::grids::Grid;
@@ -191,7 +191,7 @@ pub(crate) fn read_clean(
     ensures square { IfOk result (λ scan. IsSquareOf scan pixels.now) }
     ensures clean { IfOk result (λ scan. scan.grid ≡ None) }
     ensures inverted { IfOk result (λ scan. scan.is_inverted ≡ is_inverted) }
-    ensures read { IfOk result IsReadAs }
+    ensures read { IfOk result IsScanRead }
     ensures causes { IfErr result (IsUnreadIn pixels.now) }
 {
     let Some(square) = square_of(alloc, pixels)? else {
@@ -227,7 +227,7 @@ pub(crate) fn scan_of(
         any.reading.parts.parts.items any.reading.wrong.items }
     ensures square { IfOk result (λ scan. (scan.square ≡ square) × (scan.grid ≡ grid)) }
     ensures inverted { IfOk result (λ scan. scan.is_inverted ≡ is_inverted) }
-    ensures read { IfOk result IsReadAs }
+    ensures read { IfOk result IsScanRead }
 {
     let read = any.reading;
     let data = handed_on(alloc, &read.parts)?;

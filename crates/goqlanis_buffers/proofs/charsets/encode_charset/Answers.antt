@@ -1,7 +1,7 @@
 use Rattle.std.proofs.Common.{refl, inl, inr, ap, ◌∙◌, map}
 use Rattle.goqlanis_buffers.proofs.Coded.{uncoded, unwritten}
 use Rattle.goqlanis_buffers.proofs.Fields.{handed_back}
-use Rattle.goqlanis_buffers.specs.Charsets.{number_of, IsAskedOf}
+use Rattle.goqlanis_buffers.specs.Charsets.{charset_number, IsAskedOf}
 use Rattle.goqlanis_buffers.proofs.charsets.encode_charset.Goals as goal
 
 pub returns-in_err-asked-clause-writes : goal.returns-in_err-asked-clause-writes
@@ -18,7 +18,7 @@ pub returns-in_err-code-clause-writes : goal.returns-in_err-code-clause-writes
 returns-in_err-code-clause-writes c =
     let a = c.in_ok-asked.asked in
     let named : IsAskedOf c.args.options.now c.args.numbers.now a c.deref.result.now =
-    record { named = c.in_ok-asked.ensures.made; sets_named = ap (map number_of) c.deref.ensures.value ∙ c.in_ok-sets.ensures.value } in
+    record { named = c.in_ok-asked.ensures.made; sets_named = ap (map charset_number) c.deref.ensures.value ∙ c.in_ok-sets.ensures.value } in
     let utf8 = c.in-Ok.ensures.cases in
     handed_back _ _ _ _ _ _ c.from_residual-in_err-code.ensures refl (uncoded _ a c.deref.result.now c.in-Ok.text.now _ named utf8.0 utf8.1 c.in_err-code.ensures.causes)
 
@@ -26,7 +26,7 @@ pub returns-in_err-symbol-clause-writes : goal.returns-in_err-symbol-clause-writ
 returns-in_err-symbol-clause-writes c =
     let a = c.in_ok-asked.asked in
     let named : IsAskedOf c.args.options.now c.args.numbers.now a c.deref.result.now =
-    record { named = c.in_ok-asked.ensures.made; sets_named = ap (map number_of) c.deref.ensures.value ∙ c.in_ok-sets.ensures.value } in
+    record { named = c.in_ok-asked.ensures.made; sets_named = ap (map charset_number) c.deref.ensures.value ∙ c.in_ok-sets.ensures.value } in
     let utf8 = c.in-Ok.ensures.cases in
     handed_back _ _ _ _ _ _ c.from_residual-in_err-symbol.ensures c.in_err-symbol.ensures.unchanged
     (inr (inr (inr (inr (unwritten a c.deref.result.now _ _ c.in-Ok.text.now named utf8.0 utf8.1 c.in_ok-code.ensures.made c.in_err-symbol.ensures.causes)))))

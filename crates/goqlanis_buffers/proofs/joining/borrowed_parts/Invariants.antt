@@ -1,7 +1,7 @@
 use Rattle.std.proofs.Common.{◌≡◌, map, take}
-use Rattle.goqlanis_buffers.specs.Joining.{found_part, part_of}
+use Rattle.goqlanis_buffers.specs.Joining.{found_part, share_of}
 use Rattle.goqlanis_buffers.proofs.joining.borrowed_parts.Given as goal
 
 -- the parts so far are borrowed
 abbrev pub invariant-loop-i : goal.invariant-loop-i
-invariant-loop-i l = map part_of l.parts.items ≡ map found_part (take l.i l.fn.found)
+invariant-loop-i l = map share_of l.parts.items ≡ map found_part (take l.i l.fn.found)

@@ -4,7 +4,7 @@ use Rattle.std.specs.List.{AllByRecursion}
 use Rattle.qrcode_reader.specs.declared.spell.parts.Part.{Part}
 use Rattle.qrcode_reader.specs.spell.Parts.{byte_count}
 use Rattle.qrcode_check.specs.Guesses.{AreGuesses}
-use Rattle.qrcode_check.specs.Segments.{AreTaken, NotComparable}
+use Rattle.qrcode_check.specs.Segments.{IsBitUse, NotComparable}
 use Rattle.qrcode_check.proofs.Bounded.{few_parts, few_bytes, short_parts}
 use Rattle.qrcode_check.proofs.checking.content_of.Goals as goal
 
@@ -38,8 +38,8 @@ returns c =
       ending = c.ending_behind.ensures;
       guesses = subst (λ (ps : List Part). AreGuesses ps p.bytes.items c.guesses_in.result) c.deref-3.ensures.value
           (subst (λ (bs : List ℕ). AreGuesses c.deref-3.result.now bs c.guesses_in.result) c.deref-4.ensures.value c.guesses_in.ensures);
-      taken = subst (λ (ps : List Part). IfSome t (AreTaken v p.bytes.items ps)) c.deref.ensures.value
-          (subst (λ (bs : List ℕ). IfSome t (AreTaken v bs c.deref.result.now)) c.deref-2.ensures.value c.in_ok-bits_taken.ensures.value);
+      taken = subst (λ (ps : List Part). IfSome t (IsBitUse v p.bytes.items ps)) c.deref.ensures.value
+          (subst (λ (bs : List ℕ). IfSome t (IsBitUse v bs c.deref.result.now)) c.deref-2.ensures.value c.in_ok-bits_taken.ensures.value);
       not_taken = subst (λ (ps : List Part). IfNone t (NotComparable v p.bytes.items ps)) c.deref.ensures.value
           (subst (λ (bs : List ℕ). IfNone t (NotComparable v bs c.deref.result.now)) c.deref-2.ensures.value c.in_ok-bits_taken.ensures.none);
     }

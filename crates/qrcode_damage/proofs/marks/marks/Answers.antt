@@ -1,7 +1,7 @@
 use Rattle.std.proofs.Common.{◌≡◌, ◌-◌, ◌*◌, ◌++◌, ℕ, sym, ap, ◌∙◌, arith}
 use Rattle.qrcode_types.specs.Versions.{side}
 use Rattle.qrcode_damage.specs.Areas.{covers}
-use Rattle.qrcode_damage.specs.Counting.{mark_at, marked}
+use Rattle.qrcode_damage.specs.Counting.{mark_at, area_marks}
 use Rattle.qrcode_damage.proofs.Steps.{none_marked, marked_more, all_marked}
 use Rattle.qrcode_damage.proofs.marks.marks.Goals as goal
 
@@ -15,7 +15,7 @@ loop-t-preserved c =
     let t = c.loop-t.t in
     c.in_ok-push_mark.ensures
     ∙ ap (λ xs. xs ++ mark_at v area c.place-x.result) c.loop-t.invariant
-    ∙ ap (λ (p : ℕ × ℕ). marked v area t ++ mark_at v area p) c.place-x.ensures.value
+    ∙ ap (λ (p : ℕ × ℕ). area_marks v area t ++ mark_at v area p) c.place-x.ensures.value
     ∙ sym (marked_more v area t)
 
 pub returns : goal.returns

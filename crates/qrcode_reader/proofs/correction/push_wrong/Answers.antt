@@ -1,6 +1,6 @@
 use Rattle.std.proofs.Common.{◌≡◌, ◌++◌, length, sym, ap, ◌∙◌, arith, append-nil}
 use Rattle.std.specs.List.{range_with_len, flat_map}
-use Rattle.qrcode_reader.specs.Corrected.{wrong_at, wrong_in}
+use Rattle.qrcode_reader.specs.Corrected.{wrong_at, wrong_of_block}
 use Rattle.qrcode_reader.proofs.Corrections.{wrong_step, wrong_here, right_here}
 use Rattle.qrcode_reader.proofs.correction.push_wrong.Goals as goal
 use Rattle.qrcode_reader.proofs.correction.push_wrong.Goals.{then-before-place+in_ok-push, else-before-place}
@@ -18,7 +18,7 @@ loop-place-preserved c =
     ])
 
 pub returns : goal.returns
-unfolding wrong_in
+unfolding wrong_of_block
 returns c =
     let all : c.loop-place.place ≡ length c.args.before.now = omega arith in
     c.loop-place.invariant ∙ ap (λ n. c.args.wrong.now.items ++ flat_map (wrong_at c.args.block c.args.before.now c.args.after.now) (range_with_len 0 n)) all

@@ -1,6 +1,6 @@
 use Rattle.std.proofs.Common.{◌≡◌}
 use Rattle.std.proofs.lemmas.Result.{err_from_is_err_and, IfErr-weaker}
-use Rattle.qrcode_reader.specs.Readings.{IsCause, IsReading}
+use Rattle.qrcode_reader.specs.Readings.{IsUnreadCause, IsReading}
 use Rattle.qrcode_reader.specs.declared.refusals.Unread.TheVariants.{OutOfMemory}
 use Rattle.qrcode_reader.proofs.Refused.{bytes_only_memory, reading, unspelled, given_back}
 use Rattle.qrcode_reader.proofs.reading.read.Goals as goal
@@ -29,7 +29,7 @@ returns-in_err-data-clause-causes c =
 pub returns-in_err-data-clause-accepts : goal.returns-in_err-data-clause-accepts
 returns-in_err-data-clause-accepts c =
     let s = c.args.modules.now in
-    λ bytes q. IfErr-weaker c.from_residual-in_err-data.result (IsCause s) (λ e. e ≡ OutOfMemory) (λ e cause. bytes_only_memory s e cause bytes q) (returns-in_err-data-clause-causes c)
+    λ bytes q. IfErr-weaker c.from_residual-in_err-data.result (IsUnreadCause s) (λ e. e ≡ OutOfMemory) (λ e cause. bytes_only_memory s e cause bytes q) (returns-in_err-data-clause-causes c)
 
 pub returns-in_err-data-clause-gives_back : goal.returns-in_err-data-clause-gives_back
 returns-in_err-data-clause-gives_back c =

@@ -2,7 +2,7 @@ use Rattle.std.proofs.Common.{◌≡◌, ◌-◌, ◌++◌, List, ℕ, false, le
 use Rattle.std.specs.Result.{is_err}
 use Rattle.std.proofs.lemmas.List.{with_items_is}
 use Rattle.qrcode_ec.specs.Codes.{Corrects}
-use Rattle.qrcode_reader.specs.Corrected.{wrong_in}
+use Rattle.qrcode_reader.specs.Corrected.{wrong_of_block}
 use Rattle.qrcode_reader.proofs.correction.Corrected.push.Goals as goal
 use Rattle.qrcode_reader.proofs.correction.Corrected.push.Goals.{After-is_err}
 
@@ -36,5 +36,5 @@ returns-clause-taken c =
       corrected = new;
       corrects = subst (λ b. Corrects b n new) (given k) (when_ok c.correct.result (sym c.is_err.ensures.value ∙ c.if-is_err.false) c.correct.ensures.value);
       holds = c.in_ok-extend_from_slice.ensures.items ∙ ap₂ (λ (k : ℕ) (xs : List ℕ). old.data.items ++ take k xs) size (c.deref.ensures.value ∙ items);
-      places = c.in_ok-push_wrong.ensures ∙ ap (λ (xs : List ℕ). old.wrong.items ++ wrong_in c.args.number c.args.block.now xs) (c.deref-2.ensures.value ∙ items);
+      places = c.in_ok-push_wrong.ensures ∙ ap (λ (xs : List ℕ). old.wrong.items ++ wrong_of_block c.args.number c.args.block.now xs) (c.deref-2.ensures.value ∙ items);
     }
