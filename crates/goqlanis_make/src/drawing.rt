@@ -13,7 +13,7 @@ use crate::damaging::draw_damaged;
 use crate::elements::{Elements, with_round_brackets};
 use crate::middle::{draw_with_middle, has_pixels};
 use crate::segments::{characters_of, segment_of};
-use crate::{Done, Drawing};
+use crate::{Done, FileBytes};
 use goqlanis_files::failure::Failure;
 use goqlanis_files::streams::{print, write_data, write_file};
 use goqlanis_files::{refused, usage};
@@ -39,7 +39,7 @@ use std::process::ExitCode;
 
 /// Encodes data, and draws and reports the code as `draw_reported` does. A larger version may give
 /// a logo more room.
-pub(crate) fn draw(rt: &HostRuntime, asked: &Job<'_, '_>, data: &[u8]) -> Done<Drawing> {
+pub(crate) fn draw(rt: &HostRuntime, asked: &Job<'_, '_>, data: &[u8]) -> Done<FileBytes> {
     let (code, coded) = encode(rt.alloc(), asked, data)?;
     let Some(choice) = choice_for_logo(rt.alloc(), asked, &code)? else {
         return draw_reported(rt, asked, code, coded);
@@ -267,7 +267,7 @@ pub(crate) fn draw_reported(
     asked: &Job<'_, '_>,
     code: QrCode,
     coded: Option<Coded>,
-) -> Done<Drawing> {
+) -> Done<FileBytes> {
     check_side(rt.alloc(), asked, &code)?;
     let area = area_in(rt.alloc(), asked, &code)?;
     let bytes = match asked.work {
@@ -301,7 +301,7 @@ pub(crate) fn check_terminal(rt: &HostRuntime, asked: &Job<'_, '_>) -> Done<()> 
 pub(crate) fn write_drawing(
     rt: &HostRuntime,
     asked: &Job<'_, '_>,
-    drawing: Drawing,
+    drawing: FileBytes,
 ) -> Done<ExitCode> {
     let Some(bytes) = drawing else {
         return Ok(ExitCode::SUCCESS);
@@ -321,7 +321,7 @@ pub(crate) fn write_page(
     rt: &HostRuntime,
     asked: &Job<'_, '_>,
     pages: &mut Pages<'_>,
-    drawing: Drawing,
+    drawing: FileBytes,
 ) -> Done<()> {
     match (drawing, asked.request.format) {
         (Some(file), Format::Pdf) => pages.add(rt, &file),

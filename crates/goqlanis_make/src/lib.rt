@@ -21,4 +21,4 @@ pub use making::make;
 type Done<T> = Result<T, Failure>;
 
 /// The bytes of a drawing; none if the code is only reported.
-type Drawing = Option<Vec<u8>>;
+type FileBytes = Option<Vec<u8>>;

@@ -2,7 +2,7 @@
 
 use crate::drawing::{draw, write_drawing, write_page};
 use crate::making::draw_payload;
-use crate::{Done, Drawing};
+use crate::{Done, FileBytes};
 use goqlanis_files::failure::{Doubts, Failure};
 use goqlanis_files::files::flush_folder;
 use goqlanis_files::streams::{Series, ask, named, shown, unread};
@@ -162,7 +162,7 @@ fn draw_data(
     asked: &Job<'_, '_>,
     table: &Table<'_>,
     line: &Line<'_>,
-) -> Done<Drawing> {
+) -> Done<FileBytes> {
     let columns = &table.columns;
     if let Work::Payload(fields) = asked.work {
         let row = LineFields::of(rt.alloc(), columns, line, &fields)?;

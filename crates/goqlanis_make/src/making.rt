@@ -5,7 +5,7 @@ use crate::lines::draw_lines;
 use crate::middle::read_logo;
 use crate::payloads::payload_of;
 use crate::splitting::{MOST_IN_SEVERAL, draw_several};
-use crate::{Done, Drawing};
+use crate::{Done, FileBytes};
 use goqlanis_files::failure::Failure;
 use goqlanis_files::streams::{MOST_DATA, read_file, read_standard_input, shown};
 use goqlanis_files::{doubted, refused, usage};
@@ -64,7 +64,7 @@ fn warn_of_places(rt: &HostRuntime, asked: &Job<'_, '_>) -> Done<()> {
 }
 
 // Draws a payload whose fields the options give.
-fn draw_fields(rt: &HostRuntime, asked: &Job<'_, '_>, fields: Fields<'_, '_>) -> Done<Drawing> {
+fn draw_fields(rt: &HostRuntime, asked: &Job<'_, '_>, fields: Fields<'_, '_>) -> Done<FileBytes> {
     if matches!(asked.input.source, Source::File(_)) {
         return usage!(rt.alloc();
             "--input goes with --lines, which takes the fields from columns; without it, options \
@@ -81,7 +81,7 @@ pub(crate) fn draw_payload<G: FieldSource>(
     asked: &Job<'_, '_>,
     given: &G,
     columns: &Columns,
-) -> Done<Drawing> {
+) -> Done<FileBytes> {
     let text = payload_of(rt.alloc(), kind, given, columns)?;
     if matches!(kind, Kind::Bill) {
         return draw_bill(rt, asked, text.as_str());
@@ -99,7 +99,7 @@ pub(crate) fn draw_payload<G: FieldSource>(
 }
 
 // Draws a Swiss QR-bill. Warns of what its standard does not allow.
-fn draw_bill(rt: &HostRuntime, asked: &Job<'_, '_>, text: &str) -> Done<Drawing> {
+fn draw_bill(rt: &HostRuntime, asked: &Job<'_, '_>, text: &str) -> Done<FileBytes> {
     check_bill(rt.alloc(), text)?;
     if asked.logo.is_none() {
         doubted!(rt, asked.doubts;
