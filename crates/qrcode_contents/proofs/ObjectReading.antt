@@ -7,8 +7,8 @@ use Rattle.std.proofs.lemmas.Bool.Decides.{nat_tests}
 use Rattle.std.proofs.lemmas.List.{length-append}
 use Rattle.std.proofs.lemmas.List.Concat.{flat_map-append}
 use Rattle.std.proofs.lemmas.Slice.Eq.{bytes_eq-Decides}
+use Rattle.qrcode_types.specs.Characters.{is_digit}
 use Rattle.qrcode_contents.specs.Times.{pair_text}
-use Rattle.qrcode_contents.specs.fields.Characters.{is_digit}
 use Rattle.qrcode_contents.specs.fields.Entries.{single, is_filled, filled_entries}
 use Rattle.qrcode_contents.specs.fields.Links.{Parameter}
 use Rattle.qrcode_contents.specs.fields.Objects.{object_text, objects_text, pair_value, read_at_most, read_objects, crc_of, crc_text, checked_text, read_checked}

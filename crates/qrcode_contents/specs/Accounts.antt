@@ -1,7 +1,8 @@
 -- Account numbers (IBAN, ISO 13616) and creditor references (ISO 11649): two letters, two check digits, and the characters that they check.
 use Rattle.std.specs.Prelude.{ℕ, nat_lt, nat_le, ◌+◌, ◌-◌, ◌*◌, ◌%◌, ◌==◌, ◌&&◌, Bool, List, length, take, drop, slice_index_or}
 use Rattle.std.specs.List.{list_all}
-use Rattle.qrcode_contents.specs.fields.Characters.{is_capital, is_capital_or_digit, is_digit}
+use Rattle.qrcode_types.specs.Characters.{is_digit}
+use Rattle.qrcode_contents.specs.fields.Characters.{is_capital, is_capital_or_digit}
 use Rattle.qrcode_contents.specs.fields.Numbers.{checked_number}
 
 abbrev pub has_form : List ℕ → Bool  -- the form of either: two capitals, two digits, then only capitals and digits

@@ -3,6 +3,7 @@ use Rattle.std.specs.Prelude.{ℕ, nat_lt, ◌+◌, ◌==◌, ◌&&◌, ◌||◌
 use Rattle.std.specs.Str.{bytes_eq, chars}
 use Rattle.std.specs.List.{list_all, list_any, starts_with}
 use Rattle.std.specs.Option.{option_map, option_and_then}
+use Rattle.qrcode_types.specs.Characters.{is_digit}
 use Rattle.qrcode_contents.specs.declared.fields.errors.ContentError.{ContentError}
 use Rattle.qrcode_contents.specs.declared.fields.errors.ContentError.TheVariants.{Refused, OutOfMemory}
 use Rattle.qrcode_contents.specs.declared.fields.errors.Field.{Field}
@@ -14,7 +15,7 @@ use Rattle.qrcode_contents.specs.declared.bill.Currency.TheVariants.{Franc, Euro
 use Rattle.qrcode_contents.specs.declared.bill.Party.{Party}
 use Rattle.qrcode_contents.specs.declared.bill.Bill.{Bill}
 use Rattle.qrcode_contents.specs.fields.Amounts.{amount_text, read_amount}
-use Rattle.qrcode_contents.specs.fields.Characters.{is_capital, is_control, is_digit}
+use Rattle.qrcode_contents.specs.fields.Characters.{is_capital, is_control}
 use Rattle.qrcode_contents.specs.fields.Entries.{is_empty, is_filled, read_or_none}
 use Rattle.qrcode_contents.specs.fields.Lines.{lines_text, read_lines, line_at}
 use Rattle.qrcode_contents.specs.fields.Numbers.{carry_of}

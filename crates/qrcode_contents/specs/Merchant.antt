@@ -4,6 +4,7 @@ use Rattle.std.specs.Prelude.{◌≡◌, ℕ, nat_lt, ◌-◌, ◌==◌, ◌&&�
 use Rattle.std.specs.Str.{bytes_eq}
 use Rattle.std.specs.List.{after_first, list_all, starts_with}
 use Rattle.std.specs.Option.{option_map, option_and_then}
+use Rattle.qrcode_types.specs.Characters.{is_digit}
 use Rattle.qrcode_contents.specs.declared.fields.errors.ContentError.{ContentError}
 use Rattle.qrcode_contents.specs.declared.fields.errors.Field.TheVariants.{Amount, City, Description, Name, Payee, Reference}
 use Rattle.qrcode_contents.specs.declared.fields.errors.Cause.TheVariants.{Character, CheckDigits, Empty, Range, TooLong, TooShort}
@@ -11,7 +12,7 @@ use Rattle.qrcode_contents.specs.declared.merchant.Pix.{Pix}
 use Rattle.qrcode_contents.specs.declared.merchant.PromptPay.{PromptPay}
 use Rattle.qrcode_contents.specs.Bill.{amount_line, is_out_of_range, read_cents}
 use Rattle.qrcode_contents.specs.PixKeys.{has_wrong_digits, is_key}
-use Rattle.qrcode_contents.specs.fields.Characters.{is_capital, is_digit}
+use Rattle.qrcode_contents.specs.fields.Characters.{is_capital}
 use Rattle.qrcode_contents.specs.fields.Decimals.{read_decimal}
 use Rattle.qrcode_contents.specs.fields.Entries.{Entry, after_start, is_empty, is_filled, value_of}
 use Rattle.qrcode_contents.specs.fields.Links.{Parameter}

@@ -2,10 +2,11 @@
 use Rattle.std.specs.Prelude.{ℕ, ◌==◌, ◌&&◌, not, Bool, List, [], ◌∷◌, ◌++◌, drop, Option, codes}
 use Rattle.std.specs.List.{list_all, list_any}
 use Rattle.std.specs.Option.{option_map, option_and_then}
+use Rattle.qrcode_types.specs.Characters.{is_digit}
 use Rattle.qrcode_contents.specs.declared.fields.errors.ContentError.{ContentError}
 use Rattle.qrcode_contents.specs.declared.fields.errors.Field.TheVariants.{Phone}
 use Rattle.qrcode_contents.specs.declared.fields.errors.Cause.TheVariants.{Empty, Character}
-use Rattle.qrcode_contents.specs.fields.Characters.{is_dialled, is_digit, before, after}
+use Rattle.qrcode_contents.specs.fields.Characters.{is_dialled, before, after}
 use Rattle.qrcode_contents.specs.fields.Entries.{is_empty, is_filled, after_start}
 use Rattle.qrcode_contents.specs.fields.Percents.{encoded, decoded}
 use Rattle.qrcode_contents.specs.fields.Refusals.{refused_if, first_refusal}

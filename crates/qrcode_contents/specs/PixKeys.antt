@@ -2,7 +2,8 @@
 -- addresses and random keys.
 use Rattle.std.specs.Prelude.{◌≡◌, ℕ, nat_lt, nat_le, ◌+◌, ◌-◌, ◌*◌, ◌%◌, ◌==◌, ◌&&◌, ◌||◌, not, Bool, true, false, List, [], ◌∷◌, length, drop, slice_index_or, codes, if◌then◌else◌, refl}
 use Rattle.std.specs.List.{list_all, starts_with}
-use Rattle.qrcode_contents.specs.fields.Characters.{is_capital_or_digit, is_digit, matches_form}
+use Rattle.qrcode_types.specs.Characters.{is_digit}
+use Rattle.qrcode_contents.specs.fields.Characters.{is_capital_or_digit, matches_form}
 use Rattle.qrcode_contents.specs.Upi.{is_address}
 
 -- the values of characters, each by its weight, added up; the value of a character is its code less that of 0, so that digits are their own

@@ -3,9 +3,9 @@ use Rattle.std.specs.Prelude.{◌≡◌, ℕ, nat_lt, nat_le, ◌+◌, ◌*◌, 
 use Rattle.std.specs.List.{list_all}
 use Rattle.std.specs.Str.{bytes_eq}
 use Rattle.std.specs.Str.Parse.{digits_value}
+use Rattle.qrcode_types.specs.Characters.{is_digit}
 use Rattle.qrcode_contents.specs.declared.times.Day.{Day}
 use Rattle.qrcode_contents.specs.declared.times.Moment.{Moment}
-use Rattle.qrcode_contents.specs.fields.Characters.{is_digit}
 
 abbrev pub is_leap : ℕ → Bool  -- a leap year of the Gregorian calendar
 is_leap year = year % 4 == 0 && (not (year % 100 == 0) || year % 400 == 0)

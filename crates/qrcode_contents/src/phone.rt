@@ -2,9 +2,9 @@
 
 ghost use Rattle.std.specs.Prelude.{◌≡◌, ◌++◌, ◌==◌, drop, Some, IfOk, OnOk, IsOkUnless, string_bytes, codes};
 ghost use Rattle.std.specs.List.{list_any};
+ghost use Rattle.qrcode_types.specs.Characters.{is_digit};
 ghost use Rattle.qrcode_contents.specs.declared.fields.errors.Cause.TheVariants.{Character};
 ghost use Rattle.qrcode_contents.specs.declared.fields.errors.ContentError.TheVariants.{OutOfMemory};
-ghost use Rattle.qrcode_contents.specs.fields.Characters.{is_digit};
 ghost use Rattle.qrcode_contents.specs.fields.Entries.{after_start};
 ghost use Rattle.qrcode_contents.specs.fields.Percents.{encoded, decoded};
 ghost use Rattle.qrcode_contents.specs.Phone.{is_phone_number, is_no_number, phone_refusal, message_text, read_message};

@@ -8,7 +8,7 @@ use Rattle.qrcode_types.specs.declared.types.Mode.TheVariants.{Numeric, Alphanum
 use Rattle.qrcode_bits.specs.Tokens.{first_byte}
 use Rattle.qrcode_gs1.specs.symbol.Characters.{characters_for, written_characters, has_characters, must_end, can_stand}
 use Rattle.qrcode_gs1.specs.symbol.Fewest.{after_byte, ends, goes_or, better, with_header, even_on, best_start, costs_of}
-use Rattle.qrcode_gs1.specs.declared.symbol.costs.Costs.{Costs}
+use Rattle.qrcode_gs1.specs.declared.symbol.costs.RestCosts.{RestCosts}
 use Rattle.qrcode_gs1.specs.declared.symbol.costs.Headers.{Headers}
 use Rattle.qrcode_gs1.specs.declared.symbol.costs.Start.{Start}
 use Rattle.qrcode_gs1.specs.declared.symbol.costs.Way.{Way}
@@ -101,7 +101,7 @@ goes_least h m (b ∷ chunk) rest = λ n can.
     )
 
 -- the best start takes at most the bits of any segment that begins here
-pub start_least : (h : Headers) (b follows : ℕ) (next : Costs) (m : Mode) → goes_with m b ≡ true → (best_start h b follows next).bits ≤ header_of h m + (begun m b follows next).bits
+pub start_least : (h : Headers) (b follows : ℕ) (next : RestCosts) (m : Mode) → goes_with m b ≡ true → (best_start h b follows next).bits ≤ header_of h m + (begun m b follows next).bits
 start_least h b follows next m can =
     let bytes = with_header Byte h.byte (after_byte 8 next.bytes) in
     let letters = with_header Alphanumeric h.alphanumeric (even_on b follows next) in

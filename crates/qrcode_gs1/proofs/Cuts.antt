@@ -22,7 +22,7 @@ use Rattle.qrcode_bits.proofs.SegmentRanges.{length-range, tile_le, all-drop}
 use Rattle.qrcode_gs1.specs.symbol.Characters.{written_characters, marked_pieces, can_stand}
 use Rattle.qrcode_gs1.specs.symbol.Cuts.{IsMarkedCut, IsLeastMarkedCut, marked_cost}
 use Rattle.qrcode_gs1.specs.symbol.Fewest.{AreFew, AreAllFew, AreSmall, headers_of, step, costs_of}
-use Rattle.qrcode_gs1.specs.declared.symbol.costs.Costs.{Costs}
+use Rattle.qrcode_gs1.specs.declared.symbol.costs.RestCosts.{RestCosts}
 use Rattle.qrcode_gs1.specs.declared.symbol.costs.Headers.{Headers}
 use Rattle.qrcode_gs1.specs.declared.symbol.costs.Start.{Start}
 use Rattle.qrcode_gs1.proofs.Steps.{left}
@@ -153,7 +153,7 @@ rest_few h bytes byte are limit =
     }
 
 -- nor do those of the data from a place on
-pub costs_few : (h : Headers) (bytes : List ℕ) (i : ℕ) (costs : Costs) → costs ≡ costs_of h (drop i bytes) → h.byte ≤ 20 → AreBytes bytes → length bytes ≤ data_limit → AreAllFew costs
+pub costs_few : (h : Headers) (bytes : List ℕ) (i : ℕ) (costs : RestCosts) → costs ≡ costs_of h (drop i bytes) → h.byte ≤ 20 → AreBytes bytes → length bytes ≤ data_limit → AreAllFew costs
 costs_few h bytes i costs is byte are limit =
     subst AreAllFew (sym is) (rest_few h (drop i bytes) byte (all-drop (λ n. n < 256) i bytes are) (omega (arith, length-drop i bytes, limit)))
 

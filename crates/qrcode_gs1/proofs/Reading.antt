@@ -9,12 +9,13 @@ use Rattle.std.proofs.lemmas.List.{length-append, take-append-le}
 use Rattle.std.proofs.lemmas.List.Folds.{list_all-append}
 use Rattle.std.proofs.Math.Seq.{take-append_seam, drop-append_seam}
 use Rattle.std.proofs.lemmas.Bool.{and_parts, eqb-true, not-true}
+use Rattle.qrcode_types.specs.Characters.{is_digit}
 use Rattle.qrcode_gs1.specs.declared.errors.Gs1Error.{Gs1Error}
 use Rattle.qrcode_gs1.specs.declared.errors.Gs1Error.TheVariants.{OutOfMemory}
 use Rattle.qrcode_gs1.specs.declared.errors.Cause.{Cause}
 use Rattle.qrcode_gs1.specs.declared.errors.Cause.TheVariants.{Length, Character, CheckDigit, Range}
 use Rattle.qrcode_gs1.specs.Elements.{Item, decimal_value, prefix_of, digit_count, fixed_length, is_fixed, separator, element_string, before_separator, behind_separator, first_element, item_of, read_items, read_elements, are_apart}
-use Rattle.qrcode_gs1.specs.Refusals.{is_digit, is_character, is_identifier, numbered_rule, has_check_digit, is_dated, is_date, cause_by, cause_found, cause_of, refusal_or, refusal_from, checked, Answers}
+use Rattle.qrcode_gs1.specs.Refusals.{is_character, is_identifier, numbered_rule, has_check_digit, is_dated, is_date, cause_by, cause_found, cause_of, refusal_or, refusal_from, checked, Answers}
 use Rattle.qrcode_gs1.specs.Table.{Rule, rules}
 
 -- bytes without a separator

@@ -7,7 +7,7 @@ use Rattle.qrcode_types.specs.declared.types.Mode.{Mode}
 use Rattle.qrcode_types.specs.declared.types.Mode.TheVariants.{Numeric, Alphanumeric, Byte, Kanji}
 use Rattle.qrcode_gs1.specs.symbol.Characters.{characters_for, has_characters, must_end}
 use Rattle.qrcode_gs1.specs.symbol.Fewest.{after_byte, ends, goes_or, even_on, best_start, step, at_end, end_start}
-use Rattle.qrcode_gs1.specs.declared.symbol.costs.Costs.{Costs}
+use Rattle.qrcode_gs1.specs.declared.symbol.costs.RestCosts.{RestCosts}
 use Rattle.qrcode_gs1.specs.declared.symbol.costs.Headers.{Headers}
 use Rattle.qrcode_gs1.specs.declared.symbol.costs.Way.{Way}
 
@@ -21,14 +21,14 @@ by_two zero a b = a
 by_two (suc n) a b = b
 
 -- how the rest goes on after an open segment of n characters
-abbrev pub left : Costs → Mode → ℕ → Way
+abbrev pub left : RestCosts → Mode → ℕ → Way
 left r Numeric n = by_three (n % 3) r.digits r.one_digit r.two_digits
 left r Alphanumeric n = by_two (n % 2) r.letters r.odd_letter
 left r Byte n = r.bytes
 left r Kanji n = ends r.start
 
 -- the same, or, if the segment must end, the best start
-abbrev pub after : Costs → Mode → ℕ → Bool → Way
+abbrev pub after : RestCosts → Mode → ℕ → Bool → Way
 after next m n true = ends next.start
 after next m n false = left next m n
 
@@ -44,13 +44,13 @@ abbrev pub count_for : Mode → ℕ → ℕ
 count_for m b = length (characters_for m b)
 
 -- a way that goes on with the byte adds the bits of its characters
-pub record Adds (m : Mode) (n b follows : ℕ) (next : Costs) (way : Way) : Type 0 where
+pub record Adds (m : Mode) (n b follows : ℕ) (next : RestCosts) (way : Way) : Type 0 where
   pub bits : ℕ
   pub adds : data_bits_count m n + bits ≡ data_bits_count m (n + count_for m b)
   pub is : way ≡ after_byte bits (after next m (n + count_for m b) (must_end m b follows))
 
 -- an open segment ends, or it goes on with the byte
-pub record Stepped (h : Headers) (b follows : ℕ) (next : Costs) (m : Mode) (n : ℕ) : Type 0 where
+pub record Stepped (h : Headers) (b follows : ℕ) (next : RestCosts) (m : Mode) (n : ℕ) : Type 0 where
   pub way : Way
   pub adds : Adds m n b follows next way
   pub is : left (step h b follows next) m n ≡ goes_or (ends (best_start h b follows next)) (goes_with m b) way
@@ -67,7 +67,7 @@ two_letters b is = ap (λ (k : ℕ). count_for Alphanumeric k) (eqb-true b 37 is
 ended_letter : (b follows : ℕ) → must_end Alphanumeric b follows ≡ true → count_for Alphanumeric b ≡ 1
 ended_letter b follows is = ap (λ (k : ℕ). count_for Alphanumeric k) (eqb-true b 29 (and_parts (b == 29) _ is).0)
 
-letters_add : (n b follows : ℕ) (next : Costs) (one : ℕ) (first second : Way) → first ≡ left next Alphanumeric (n + 1) → second ≡ left next Alphanumeric (n + 2)
+letters_add : (n b follows : ℕ) (next : RestCosts) (one : ℕ) (first second : Way) → first ≡ left next Alphanumeric (n + 1) → second ≡ left next Alphanumeric (n + 2)
     → data_bits_count Alphanumeric n + one ≡ data_bits_count Alphanumeric (n + 1) → data_bits_count Alphanumeric n + 11 ≡ data_bits_count Alphanumeric (n + 2)
     → Adds Alphanumeric n b follows next (if must_end Alphanumeric b follows then after_byte one (ends next.start) else (if b == 37 then after_byte 11 second else after_byte one first))
 letters_add n b follows next one first second is_first is_second single double =
@@ -114,11 +114,11 @@ left_at_end Alphanumeric n =
     elim (two n) [ inl e ↦ ap of e | inr e ↦ ap of e ]
 left_at_end m n = grind (arith, nat_tests)
 
-pub stepped : (h : Headers) (b follows : ℕ) (next : Costs) (m : Mode) (n : ℕ) → Stepped h b follows next m n
+pub stepped : (h : Headers) (b follows : ℕ) (next : RestCosts) (m : Mode) (n : ℕ) → Stepped h b follows next m n
 stepped h b follows next Numeric n =
     let all : ℕ → Way = λ k. left (step h b follows next) Numeric k in
     let now = step h b follows next in
-    let of : (r : Costs) → ℕ → Way = λ r k. by_three k r.digits r.one_digit r.two_digits in
+    let of : (r : RestCosts) → ℕ → Way = λ r k. by_three k r.digits r.one_digit r.two_digits in
     elim (three n) [
       | inl e ↦ let f : (n + 1) % 3 ≡ 1 = omega (arith, e) in record { way = after_byte 4 next.one_digit; is = ap (of now) e; adds = record { bits = 4; adds = omega (arith, e); is = ap (λ k. after_byte 4 (of next k)) (sym f) } }
       | inr (inl e) ↦ let f : (n + 1) % 3 ≡ 2 = omega (arith, e) in record { way = after_byte 3 next.two_digits; is = ap (of now) e; adds = record { bits = 3; adds = omega (arith, e); is = ap (λ k. after_byte 3 (of next k)) (sym f) } }
@@ -126,7 +126,7 @@ stepped h b follows next Numeric n =
     ]
 stepped h b follows next Alphanumeric n =
     let now = step h b follows next in
-    let of : (r : Costs) → ℕ → Way = λ r k. by_two k r.letters r.odd_letter in
+    let of : (r : RestCosts) → ℕ → Way = λ r k. by_two k r.letters r.odd_letter in
     elim (two n) [
       | inl e ↦
           let f : (n + 1) % 2 ≡ 1 = omega (arith, e) in
@@ -141,13 +141,13 @@ stepped h b follows next Byte n = record { way = after_byte 8 next.bytes; is = r
 stepped h b follows next Kanji n = record { way = after_byte 13 (ends next.start); is = refl; adds = record { bits = 13; adds = omega arith; is = refl } }
 
 -- how a segment that begins goes on from its first byte
-abbrev pub begun : Mode → ℕ → ℕ → Costs → Way
+abbrev pub begun : Mode → ℕ → ℕ → RestCosts → Way
 begun Numeric b follows next = after_byte 4 next.one_digit
 begun Alphanumeric b follows next = even_on b follows next
 begun Byte b follows next = after_byte 8 next.bytes
 begun Kanji b follows next = after_byte 13 (ends next.start)
 
-pub begun_adds : (m : Mode) (b follows : ℕ) (next : Costs) → Adds m 0 b follows next (begun m b follows next)
+pub begun_adds : (m : Mode) (b follows : ℕ) (next : RestCosts) → Adds m 0 b follows next (begun m b follows next)
 begun_adds Numeric b follows next = record { bits = 4; adds = refl; is = refl }
 begun_adds Alphanumeric b follows next = letters_add 0 b follows next 6 next.odd_letter next.letters refl refl refl refl
 begun_adds Byte b follows next = record { bits = 8; adds = refl; is = refl }

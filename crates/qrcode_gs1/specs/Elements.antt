@@ -1,6 +1,7 @@
 -- GS1 element strings: application identifiers, each with its value (GS1 General Specifications, "Processing of data
 -- from a GS1 symbology").
-use Rattle.std.specs.Prelude.{ℕ, zero, suc, nat_lt, ◌==◌, ◌&&◌, ◌||◌, ◌+◌, ◌-◌, ◌*◌, not, Bool, true, List, [], ◌∷◌, ◌++◌, length, take, drop, fold, if◌then◌else◌}
+use Rattle.std.specs.Prelude.{ℕ, zero, suc, ◌==◌, ◌&&◌, ◌||◌, ◌+◌, ◌-◌, ◌*◌, not, Bool, true, List, [], ◌∷◌, ◌++◌, length, take, drop, fold, if◌then◌else◌}
+use Rattle.qrcode_types.specs.Characters.{is_between}
 
 abbrev pub Item : Type 0  -- an identifier and its value
 Item = List ℕ × List ℕ
@@ -11,23 +12,20 @@ decimal_value digits = fold (λ number digit. number * 10 + (digit - 48)) 0 digi
 abbrev pub prefix_of : List ℕ → ℕ  -- the number that the first two digits write
 prefix_of bytes = decimal_value (take 2 bytes)
 
-abbrev pub is_within : ℕ → ℕ → ℕ → Bool  -- a number is at least one and at most another
-is_within least most n = not (nat_lt n least) && not (nat_lt most n)
-
 unfoldable pub digit_count : ℕ → ℕ  -- how many digits an identifier has, by its first two
 digit_count p =
-    if is_within 23 25 p || is_within 40 42 p || p == 71 then 3
-    else (if is_within 31 36 p || p == 39 || p == 43 || p == 70 || p == 72 || is_within 80 82 p then 4 else 2)
+    if is_between 23 25 p || is_between 40 42 p || p == 71 then 3
+    else (if is_between 31 36 p || p == 39 || p == 43 || p == 70 || p == 72 || is_between 80 82 p then 4 else 2)
 
 -- how many characters an identifier and its value have together, by the first two digits; 0 if that is not predefined
 unfoldable pub fixed_length : ℕ → ℕ
 fixed_length p =
     if p == 0 then 20
-    else (if is_within 1 3 p then 16
+    else (if is_between 1 3 p then 16
     else (if p == 4 then 18
-    else (if is_within 11 19 p then 8
+    else (if is_between 11 19 p then 8
     else (if p == 20 then 4
-    else (if is_within 31 36 p then 10
+    else (if is_between 31 36 p then 10
     else (if p == 41 then 16 else 0))))))
 
 abbrev pub is_fixed : List ℕ → Bool  -- the length of an element that begins like this is predefined

@@ -3,28 +3,26 @@ use Rattle.std.specs.Prelude.{◌≡◌, ◌⊎◌, ℕ, nat_lt, ◌==◌, ◌&&
 use Rattle.std.specs.List.{list_all}
 use Rattle.std.specs.declared.alloc.Global.{Global}
 use Rattle.std.specs.declared.vec.Vec.{Vec}
+use Rattle.qrcode_types.specs.Characters.{is_between, is_digit}
 use Rattle.qrcode_gs1.specs.declared.errors.Cause.{Cause}
 use Rattle.qrcode_gs1.specs.declared.errors.Cause.TheVariants.{UnknownIdentifier, Length, Character, CheckDigit, Range}
 use Rattle.qrcode_gs1.specs.declared.errors.Gs1Error.{Gs1Error}
 use Rattle.qrcode_gs1.specs.declared.errors.Gs1Error.TheVariants.{Refused, OutOfMemory}
-use Rattle.qrcode_gs1.specs.Elements.{Item, is_within, decimal_value, prefix_of, digit_count, fixed_length, is_fixed}
+use Rattle.qrcode_gs1.specs.Elements.{Item, decimal_value, prefix_of, digit_count, fixed_length, is_fixed}
 use Rattle.qrcode_gs1.specs.Table.{Rule, rules}
-
-abbrev pub is_digit : ℕ → Bool  -- a digit
-is_digit b = is_within 48 57 b
 
 -- one of the 82 characters: digits, letters, and ! " % & ' ( ) * + , - . / : ; < = > ? _
 unfoldable pub is_character : ℕ → Bool
 is_character b =
-    is_within 33 34 b || is_within 37 63 b || is_within 65 90 b || b == 95 || is_within 97 122 b
+    is_between 33 34 b || is_between 37 63 b || is_between 65 90 b || b == 95 || is_between 97 122 b
 
 abbrev pub first_rule : List Rule → ℕ → Option Rule  -- the first rule for this number
 first_rule [] n = None
-first_rule (rule ∷ rules) n = if is_within rule.0.0 rule.0.1 n then Some rule else first_rule rules n
+first_rule (rule ∷ rules) n = if is_between rule.0.0 rule.0.1 n then Some rule else first_rule rules n
 
 -- the rule for this number: from 3100 to 3699 the last digit is the number of decimals, at most 5
 unfoldable pub numbered_rule : List Rule → ℕ → Option Rule
-numbered_rule rules n = if is_within 3100 3699 n && nat_lt 5 (n % 10) then None else first_rule rules n
+numbered_rule rules n = if is_between 3100 3699 n && nat_lt 5 (n % 10) then None else first_rule rules n
 
 abbrev pub is_identifier : List ℕ → Bool  -- an identifier is digits, as many as its first two say
 is_identifier bytes = (length bytes == digit_count (prefix_of bytes)) && list_all is_digit bytes
@@ -55,14 +53,14 @@ wrong_row = refl
 -- the value has a length that the rule allows and, if it is predefined, the one that the identifier's first digits say
 abbrev pub has_length : Rule → Item → Bool
 has_length rule item =
-    is_within rule.1.0 rule.1.1 (length item.1)
+    is_between rule.1.0 rule.1.1 (length item.1)
     && (not (is_fixed item.0) || (length item.0 + length item.1 == fixed_length (prefix_of item.0)))
 
 abbrev pub is_written : Rule → List ℕ → Bool  -- the value has only characters that GS1 has, and digits where the rule needs them
 is_written rule value = list_all is_character value && list_all is_digit (take rule.2 value)
 
 abbrev pub is_dated : List ℕ → Bool  -- an identifier whose value is a date of six digits: 11 to 13 and 15 to 17
-is_dated bytes = is_within 11 13 (prefix_of bytes) || is_within 15 17 (prefix_of bytes)
+is_dated bytes = is_between 11 13 (prefix_of bytes) || is_between 15 17 (prefix_of bytes)
 
 abbrev pub days_in : ℕ → ℕ → ℕ  -- how many days a month has, in a year of these last two digits; 00 is 2000
 days_in year month =
@@ -75,7 +73,7 @@ pair_at i digits = decimal_value (take 2 (drop i digits))
 -- six digits of year, month and day; day 00 leaves the day open
 unfoldable pub is_date : List ℕ → Bool
 is_date digits =
-    length digits == 6 && is_within 1 12 (pair_at 2 digits) && not (nat_lt (days_in (pair_at 0 digits) (pair_at 2 digits)) (pair_at 4 digits))
+    length digits == 6 && is_between 1 12 (pair_at 2 digits) && not (nat_lt (days_in (pair_at 0 digits) (pair_at 2 digits)) (pair_at 4 digits))
 
 -- 29 February of 2000, a day that is left open, a 31st of June, and month 13
 leap_row : is_date (codes "000229") ≡ true

@@ -2,8 +2,9 @@
 
 ghost use Rattle.std.specs.Prelude.{◌≡◌, ◌≤◌, length, take};
 ghost use Rattle.std.specs.List.{list_all};
+ghost use Rattle.qrcode_types.specs.Characters.{is_digit};
 ghost use Rattle.qrcode_gs1.specs.Elements.{digit_count, fixed_length, decimal_value, prefix_of};
-ghost use Rattle.qrcode_gs1.specs.Refusals.{is_digit, numbered_rule, rule_of};
+ghost use Rattle.qrcode_gs1.specs.Refusals.{numbered_rule, rule_of};
 
 /// The rule for a range of identifiers: the first and the last of them; the shortest and the
 /// longest length of a value; how many of its first characters must be digits; and how many of

@@ -1,7 +1,7 @@
 -- Amounts as people write them: digits, perhaps in groups of three, and perhaps a point and more digits.
 use Rattle.std.specs.Prelude.{◌≡◌, ℕ, ◌%◌, ◌==◌, ◌&&◌, ◌||◌, Bool, true, false, List, [], ◌∷◌, length, take, drop, codes, if◌then◌else◌, refl}
 use Rattle.std.specs.List.{after_first, before_first, list_all}
-use Rattle.qrcode_contents.specs.fields.Characters.{is_digit}
+use Rattle.qrcode_types.specs.Characters.{is_digit}
 use Rattle.qrcode_contents.specs.fields.Entries.{is_filled}
 use Rattle.qrcode_payloads.specs.Plain.{is_byte, plain}
 use Rattle.qrcode_payloads.specs.declared.plain.Cleaning.TheVariants as cleaning

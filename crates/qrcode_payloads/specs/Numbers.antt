@@ -3,8 +3,8 @@ use Rattle.std.specs.Prelude.{◌≡◌, ℕ, ◌-◌, ◌^◌, ◌==◌, nat_le
 use Rattle.std.specs.List.{after_first, before_first, list_all}
 use Rattle.std.specs.Option.{option_map}
 use Rattle.std.specs.Str.Parse.{digits_value}
+use Rattle.qrcode_types.specs.Characters.{is_digit}
 use Rattle.qrcode_contents.specs.Geo.{negative}
-use Rattle.qrcode_contents.specs.fields.Characters.{is_digit}
 use Rattle.qrcode_contents.specs.fields.Entries.{is_filled}
 use Rattle.qrcode_payloads.specs.Plain.{is_byte}
 

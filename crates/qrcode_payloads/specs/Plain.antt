@@ -3,8 +3,9 @@ use Rattle.std.specs.Prelude.{◌≡◌, ℕ, ◌==◌, ◌&&◌, ◌||◌, ◌-
 use Rattle.std.specs.List.{after_first, before_first, filter_map, list_all, list_any, starts_with}
 use Rattle.std.specs.Char.{to_ascii_lowercase, to_ascii_uppercase}
 use Rattle.std.specs.Str.{trim}
+use Rattle.qrcode_types.specs.Characters.{is_digit}
 use Rattle.qrcode_contents.specs.Phone.{is_phone_number}
-use Rattle.qrcode_contents.specs.fields.Characters.{is_capital_or_digit, is_digit, matches_form}
+use Rattle.qrcode_contents.specs.fields.Characters.{is_capital_or_digit, matches_form}
 use Rattle.qrcode_contents.specs.fields.Entries.{is_empty}
 use Rattle.qrcode_payloads.specs.declared.plain.Cleaning.{Cleaning}
 use Rattle.qrcode_payloads.specs.declared.plain.Cleaning.TheVariants.{Spaces, Digits, Amount, Groups, Degrees, Person, Time, Clock, Key, Address}

@@ -2,9 +2,10 @@
 use Rattle.std.specs.Prelude.{◌≡◌, ℕ, zero, suc, nat_lt, nat_le, ◌+◌, ◌*◌, ◌/◌, ◌%◌, ◌==◌, ◌&&◌, ◌||◌, Bool, true, false, List, ◌∷◌, ◌++◌, length, slice_index, ◌-◌, Option, Some, None, is_some, if◌then◌else◌, codes, refl}
 use Rattle.std.specs.List.{after_first, before_first, list_all}
 use Rattle.std.specs.Option.{option_map, option_and_then}
+use Rattle.qrcode_types.specs.Characters.{is_digit}
 use Rattle.qrcode_contents.specs.declared.times.Day.{Day}
 use Rattle.qrcode_contents.specs.declared.times.Moment.{Moment}
-use Rattle.qrcode_contents.specs.fields.Characters.{is_digit, matches_form}
+use Rattle.qrcode_contents.specs.fields.Characters.{matches_form}
 use Rattle.qrcode_contents.specs.Times.{is_leap, days_in, is_moment}
 use Rattle.qrcode_contents.specs.fields.Entries.{is_empty, is_filled}
 use Rattle.qrcode_payloads.specs.Plain.{is_byte, plain}

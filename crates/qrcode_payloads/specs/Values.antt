@@ -1,5 +1,6 @@
 -- The values of the formats, from the texts of fields.
 use Rattle.std.specs.Prelude.{ℕ, ℤ, nat_lt, ◌==◌, ◌-◌, ◌^◌, Bool, false, List, length, slice_index, is_some, Option, Some, None, Result, Ok, Err, if◌then◌else◌}
+use Rattle.qrcode_types.specs.Characters.{is_digit}
 use Rattle.qrcode_contents.specs.Bill.{Addressee, Invoice}
 use Rattle.qrcode_contents.specs.Card.{CardFields}
 use Rattle.qrcode_contents.specs.Contact.{ContactFields}
@@ -33,7 +34,6 @@ use Rattle.qrcode_contents.specs.declared.wifi.Security as ways
 use Rattle.qrcode_contents.specs.declared.wifi.Security.TheVariants.{Open, Wpa}
 use Rattle.std.specs.List.{list_all}
 use Rattle.std.specs.Str.{trim}
-use Rattle.qrcode_contents.specs.fields.Characters.{is_digit}
 use Rattle.qrcode_contents.specs.fields.Entries.{is_empty}
 use Rattle.qrcode_payloads.specs.Amounts.{plain_amount}
 use Rattle.qrcode_payloads.specs.Given.{said, with_value}

@@ -223,7 +223,7 @@ pub fn fields_of(kind: Kind) -> &'static [Field]
     }
 }
 
-#[tactic(auto, unfolding(crate::specs::Kinds::is_same))]
+#[tactic(auto, unfolding(crate::specs::Kinds::is_same_field))]
 fn is_same(a: Field, b: Field) -> bool
     ensures { result ≡ is_same_field a b }
 {

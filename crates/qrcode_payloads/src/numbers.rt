@@ -3,7 +3,7 @@
 ghost use Rattle.std.specs.Prelude.{◌≡◌, ◌++◌, ◌+◌, ◌-◌, ◌≤◌, ℕ, List, [], ◌∷◌, Option, Some, None, replicate, IfSome, if◌then◌else◌};
 ghost use Rattle.std.specs.List.{list_all};
 ghost use Rattle.std.specs.Str.Parse.{digits_value};
-ghost use Rattle.qrcode_contents.specs.fields.Characters.{is_digit};
+ghost use Rattle.qrcode_types.specs.Characters.{is_digit};
 ghost use Rattle.qrcode_payloads.specs.Numbers.{at_most_u64, scaled_value, has_minus, unsigned, degrees_of};
 
 use qrcode_contents::fields::characters::parts;

@@ -1,13 +1,11 @@
 -- Tests of the characters in a field.
 use Rattle.std.specs.Prelude.{ℕ, nat_lt, ◌==◌, count_by, ◌&&◌, ◌||◌, not, Bool, true, false, List, [], ◌∷◌, map, Option, if◌then◌else◌}
 use Rattle.std.specs.List.{list_all, list_any, slice_split}
+use Rattle.qrcode_types.specs.Characters.{is_digit}
 use Rattle.qrcode_contents.specs.declared.fields.errors.ContentError.{ContentError}
 use Rattle.qrcode_contents.specs.declared.fields.errors.Field.{Field}
 use Rattle.qrcode_contents.specs.declared.fields.errors.Cause.TheVariants.{ControlCharacter}
 use Rattle.qrcode_contents.specs.fields.Refusals.{refused_if, first_refusal}
-
-abbrev pub is_digit : ℕ → Bool  -- a digit
-is_digit b = nat_lt 47 b && nat_lt b 58
 
 abbrev pub is_capital : ℕ → Bool  -- a letter A to Z
 is_capital b = nat_lt 64 b && nat_lt b 91

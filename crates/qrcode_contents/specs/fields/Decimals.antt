@@ -2,7 +2,8 @@
 use Rattle.std.specs.Prelude.{◌≡◌, ℕ, zero, suc, nat_le, ◌+◌, ◌-◌, ◌*◌, ◌^◌, ◌&&◌, Bool, List, [], ◌∷◌, length, Option, Some, None, codes, if◌then◌else◌, refl}
 use Rattle.std.specs.List.{list_all}
 use Rattle.std.specs.Str.Parse.{digits_value}
-use Rattle.qrcode_contents.specs.fields.Characters.{is_digit, before, after}
+use Rattle.qrcode_types.specs.Characters.{is_digit}
+use Rattle.qrcode_contents.specs.fields.Characters.{before, after}
 use Rattle.qrcode_contents.specs.fields.Entries.{is_filled}
 
 -- digits, and perhaps a point and at most this many digits

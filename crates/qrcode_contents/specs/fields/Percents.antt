@@ -1,6 +1,6 @@
 -- Percent-encoding (RFC 3986, section 2).
 use Rattle.std.specs.Prelude.{◌≡◌, ℕ, nat_lt, ◌+◌, ◌-◌, ◌*◌, ◌/◌, ◌%◌, ◌==◌, ◌&&◌, ◌||◌, Bool, List, [], ◌∷◌, flat_map, codes, if◌then◌else◌, refl}
-use Rattle.qrcode_contents.specs.fields.Characters.{is_digit}
+use Rattle.qrcode_types.specs.Characters.{is_digit}
 
 abbrev pub is_unreserved : ℕ → Bool  -- a byte that is not encoded: a letter, a digit, or one of -._~
 is_unreserved b =

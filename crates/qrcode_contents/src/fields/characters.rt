@@ -3,7 +3,8 @@
 ghost use Rattle.std.specs.Prelude.{◌≡◌, ◌<◌, ◌==◌, length};
 ghost use Rattle.std.specs.List.{after_first, before_first, list_all, list_any};
 ghost use Rattle.std.specs.Str.{chars};
-ghost use Rattle.qrcode_contents.specs.fields.Characters.{are_addresses, has_one_at, is_address, is_base32, is_beside_address, is_capital, is_capital_or_digit, is_control, is_dialled, is_digit, is_other_control, is_unicode_break, is_placed, matches_form};
+ghost use Rattle.qrcode_types.specs.Characters.{is_digit};
+ghost use Rattle.qrcode_contents.specs.fields.Characters.{are_addresses, has_one_at, is_address, is_base32, is_beside_address, is_capital, is_capital_or_digit, is_control, is_dialled, is_other_control, is_unicode_break, is_placed, matches_form};
 
 /// Returns whether all bytes are letters A to Z.
 pub fn are_capitals(bytes: &[u8]) -> bool

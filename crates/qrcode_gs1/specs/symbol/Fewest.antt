@@ -6,7 +6,7 @@ use Rattle.qrcode_types.specs.declared.types.Mode.{Mode}
 use Rattle.qrcode_types.specs.declared.types.Mode.TheVariants.{Numeric, Alphanumeric, Byte}
 use Rattle.qrcode_bits.specs.Tokens.{first_byte}
 use Rattle.qrcode_gs1.specs.symbol.Characters.{has_characters, must_end}
-use Rattle.qrcode_gs1.specs.declared.symbol.costs.Costs.{Costs}
+use Rattle.qrcode_gs1.specs.declared.symbol.costs.RestCosts.{RestCosts}
 use Rattle.qrcode_gs1.specs.declared.symbol.costs.Headers.{Headers}
 use Rattle.qrcode_gs1.specs.declared.symbol.costs.Start.{Start}
 use Rattle.qrcode_gs1.specs.declared.symbol.costs.Way.{Way}
@@ -26,7 +26,7 @@ pub record AreFew (w : Way) : Type 0 where  -- so few that adding a few more doe
 abbrev pub ends : Start → Way  -- an open segment ends, and the best start follows
 ends s = record { bits = s.bits; taken = 0 }
 
-pub record AreAllFew (r : Costs) : Type 0 where  -- all costs are so few
+pub record AreAllFew (r : RestCosts) : Type 0 where  -- all costs are so few
   pub start : AreFew (ends r.start)
   pub digits : AreFew r.digits
   pub one_digit : AreFew r.one_digit
@@ -49,22 +49,22 @@ better s can other = if can && nat_lt other.bits s.bits then other else s
 
 -- how an open Alphanumeric segment goes on with a byte: after whole pairs (even_on), or with one letter after these
 -- (odd_on)
-abbrev pub even_on : ℕ → ℕ → Costs → Way
+abbrev pub even_on : ℕ → ℕ → RestCosts → Way
 even_on b follows next =
     if must_end Alphanumeric b follows then after_byte 6 (ends next.start) else (if b == 37 then after_byte 11 next.letters else after_byte 6 next.odd_letter)
 
-abbrev pub odd_on : ℕ → ℕ → Costs → Way
+abbrev pub odd_on : ℕ → ℕ → RestCosts → Way
 odd_on b follows next =
     if must_end Alphanumeric b follows then after_byte 5 (ends next.start) else (if b == 37 then after_byte 11 next.odd_letter else after_byte 5 next.letters)
 
-abbrev pub best_start : Headers → ℕ → ℕ → Costs → Start  -- the best segment to begin with
+abbrev pub best_start : Headers → ℕ → ℕ → RestCosts → Start  -- the best segment to begin with
 best_start h b follows next =
     better (better (with_header Byte h.byte (after_byte 8 next.bytes))
     (has_characters Alphanumeric b) (with_header Alphanumeric h.alphanumeric (even_on b follows next)))
     (has_characters Numeric b) (with_header Numeric h.numeric (after_byte 4 next.one_digit))
 
 -- the costs one byte earlier: by that byte, the one after it, and the best start there
-abbrev pub costs_before : ℕ → ℕ → Start → Costs → Costs
+abbrev pub costs_before : ℕ → ℕ → Start → RestCosts → RestCosts
 costs_before b follows s next = record {
   start = s;
   digits = goes_or (ends s) (has_characters Numeric b) (after_byte 4 next.one_digit);
@@ -75,16 +75,16 @@ costs_before b follows s next = record {
   bytes = goes_or (ends s) true (after_byte 8 next.bytes);
 }
 
-abbrev pub step : Headers → ℕ → ℕ → Costs → Costs
+abbrev pub step : Headers → ℕ → ℕ → RestCosts → RestCosts
 step h b follows next = costs_before b follows (best_start h b follows next) next
 
 abbrev pub end_start : Start  -- the end of the bytes
 end_start = record { bits = 0; mode = Byte; taken = 0 }
 
-abbrev pub at_end : Costs
+abbrev pub at_end : RestCosts
 at_end = record { start = end_start; digits = ends end_start; one_digit = ends end_start; two_digits = ends end_start; letters = ends end_start; odd_letter = ends end_start; bytes = ends end_start }
 
-abbrev pub costs_of : Headers → List ℕ → Costs  -- the costs of the rest, byte by byte from its end
+abbrev pub costs_of : Headers → List ℕ → RestCosts  -- the costs of the rest, byte by byte from its end
 costs_of h [] = at_end
 costs_of h (b ∷ bytes) = step h b (first_byte bytes) (costs_of h bytes)
 

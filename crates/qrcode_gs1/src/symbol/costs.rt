@@ -113,7 +113,7 @@ impl Start {
 // how many digits follow its last group of three, an Alphanumeric one by whether its number of
 // letters is odd.
 #[derive(Copy, Clone)]
-pub(crate) struct Costs {
+pub(crate) struct RestCosts {
     pub(crate) start: Start,
     digits: Way,
     one_digit: Way,
@@ -123,9 +123,9 @@ pub(crate) struct Costs {
     bytes: Way,
 }
 
-impl Costs {
+impl RestCosts {
     // Returns the costs at the end of the data.
-    pub(crate) fn at_end() -> Costs
+    pub(crate) fn at_end() -> RestCosts
         ensures { result ≡ at_end }
     {
         let start = Start {
@@ -134,7 +134,7 @@ impl Costs {
             taken: 0,
         };
         let end = start.ends();
-        Costs {
+        RestCosts {
             start,
             digits: end,
             one_digit: end,
@@ -147,7 +147,7 @@ impl Costs {
 
     // Returns the costs of the rest from one byte earlier on: `byte`, then `follows`, or 0 at the
     // end.
-    pub(crate) fn with_byte_before(self, headers: Headers, byte: u8, follows: u8) -> Costs
+    pub(crate) fn with_byte_before(self, headers: Headers, byte: u8, follows: u8) -> RestCosts
         requires headers { AreSmall headers }
         requires rest { AreAllFew self }
         ensures { result ≡ step headers byte follows self }
@@ -164,7 +164,7 @@ impl Costs {
             )
             .or_if(digit, Start::new(Mode::Numeric, headers.numeric, one));
         let end = start.ends();
-        Costs {
+        RestCosts {
             start,
             digits: end.or_if(digit, one),
             one_digit: end.or_if(digit, self.two_digits.behind(3)),

@@ -8,7 +8,7 @@ ghost use Rattle.qrcode_bits.specs.declared.optimize.Segment.{Segment};
 ghost use Rattle.qrcode_gs1.specs.symbol.Cuts.{IsLeastMarkedCut, marked_cost};
 ghost use Rattle.qrcode_gs1.specs.symbol.Fewest.{AreSmall, AreStarts};
 
-use crate::symbol::costs::{Costs, Headers, Start};
+use crate::symbol::costs::{Headers, RestCosts, Start};
 use qrcode::types::{QrResult, Version};
 use qrcode_bits::optimize::Segment;
 use std::alloc::{AllocError, Global};
@@ -23,7 +23,7 @@ pub(crate) fn fewest_bits(bytes: &[u8], version: Version) -> usize
     ensures at_most { result ≤ 33554432 }
 {
     let headers = Headers::of(version);
-    let mut costs = Costs::at_end();
+    let mut costs = RestCosts::at_end();
     let mut follows = 0;
     for i in (0..bytes.len()).rev() {
         costs = costs.with_byte_before(headers, bytes[i], follows);
@@ -67,7 +67,7 @@ fn least_starts(alloc: Global, bytes: &[u8], headers: Headers) -> Result<Vec<Sta
     requires length_at_most { length bytes.now ≤ data_limit }
     ensures { IfOk result (λ starts. AreStarts headers bytes.now starts.items) }
 {
-    let mut costs = Costs::at_end();
+    let mut costs = RestCosts::at_end();
     let mut starts = Vec::from_elem(alloc, costs.start, bytes.len())?;
     let mut follows = 0;
     for i in (0..bytes.len()).rev() {

@@ -2,7 +2,7 @@ use Rattle.std.proofs.Common.{rules, [], ◌++◌, refl, arith, ◌≡◌, ◌==
 use Rattle.std.specs.List.{list_all}
 use Rattle.std.specs.Str.Parse.{digits_value}
 use Rattle.std.proofs.lemmas.Bool.Decides.{nat_tests}
-use Rattle.qrcode_contents.specs.fields.Characters.{is_digit}
+use Rattle.qrcode_types.specs.Characters.{is_digit}
 use Rattle.qrcode_payloads.specs.Numbers.{at_most_u64, placed_value}
 use Rattle.qrcode_payloads.proofs.Placing.{taken, not_taken, unplaced, placed}
 use Rattle.qrcode_payloads.proofs.numbers.decimal.Goals as goal

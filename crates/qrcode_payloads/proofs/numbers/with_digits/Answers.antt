@@ -1,6 +1,6 @@
 use Rattle.std.proofs.Common.{◌<◌, ◌-◌, ◌++◌, length, take, get_or, Some, None, if◌then◌else◌, ap, ◌∙◌, subst}
 use Rattle.std.specs.Str.Parse.{digits_value}
-use Rattle.qrcode_contents.specs.fields.Characters.{is_digit}
+use Rattle.qrcode_types.specs.Characters.{is_digit}
 use Rattle.qrcode_payloads.specs.Numbers.{at_most_u64}
 use Rattle.qrcode_payloads.proofs.Placing.{taken, digits_more, digits_joined}
 use Rattle.qrcode_payloads.proofs.numbers.with_digits.Goals as goal

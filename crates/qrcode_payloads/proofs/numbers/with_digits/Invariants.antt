@@ -1,7 +1,7 @@
 use Rattle.std.proofs.Common.{◌≡◌, ◌++◌, List, ℕ, take, true}
 use Rattle.std.specs.List.{list_all}
 use Rattle.std.specs.Str.Parse.{digits_value}
-use Rattle.qrcode_contents.specs.fields.Characters.{is_digit}
+use Rattle.qrcode_types.specs.Characters.{is_digit}
 use Rattle.qrcode_payloads.specs.Numbers.{at_most_u64}
 use Rattle.qrcode_payloads.proofs.numbers.with_digits.Given as goal
 

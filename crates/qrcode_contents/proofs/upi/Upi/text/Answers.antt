@@ -4,12 +4,13 @@ use Rattle.std.specs.Option.{option_map}
 use Rattle.std.specs.Str.{bytes_eq}
 use Rattle.std.proofs.lemmas.Bool.Decides.{nat_tests}
 use Rattle.std.proofs.lemmas.Bool.{and_parts}
+use Rattle.qrcode_types.specs.Characters.{is_digit}
 use Rattle.qrcode_contents.specs.declared.fields.errors.Field.TheVariants.{Amount, Category, Name, Note, Payee, Reference}
 use Rattle.qrcode_contents.specs.declared.fields.errors.Cause.TheVariants.{Character, ControlCharacter, Range}
 use Rattle.qrcode_contents.specs.Bill.{amount_line, is_out_of_range, read_cents}
 use Rattle.qrcode_contents.specs.Upi.{UpiFields, upi_of, upi_with, is_address_byte, is_category, upi_checks, upi_refusal, upi_parameters, upi_text, read_upi}
 use Rattle.qrcode_contents.specs.fields.Amounts.{amount_text}
-use Rattle.qrcode_contents.specs.fields.Characters.{is_control, is_digit}
+use Rattle.qrcode_contents.specs.fields.Characters.{is_control}
 use Rattle.qrcode_contents.specs.fields.Entries.{is_filled, filled_entries, single, value_of}
 use Rattle.qrcode_contents.specs.fields.EntryTests.{are_distinct}
 use Rattle.qrcode_contents.specs.fields.Links.{read_parameter, value_in}
