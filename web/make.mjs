@@ -66,11 +66,16 @@ function showForm(state = {}) {
     if (form.level)
         at("level").value = form.level;
     at("level").disabled = form.level !== undefined;
-    for (const id of ["micro", "boost", "marked"]) {
-        at(id).disabled = form.isFixed;
-        at(id).checked &&= !form.isFixed;
-    }
     draw();
+}
+
+/** Disables the boxes that the format or the other options leave no choice of. */
+function limitBoxes() {
+    const { isFixed } = FORMS[at("kind").value], hasVersion = at("version").value !== "";
+    const isOff = { marked: isFixed, boost: isFixed || hasVersion,
+        micro: isFixed || hasVersion || at("marked").checked };
+    for (const [id, isSo] of Object.entries(isOff))
+        Object.assign(at(id), { disabled: isSo, checked: at(id).checked && !isSo });
 }
 
 const valueOf = (input) => (input.type === "checkbox" ? input.checked : input.value);
@@ -102,11 +107,10 @@ function make() {
     const form = FORMS[at("kind").value];
     const names = Object.keys(form.fields);
     const values = Object.fromEntries(names.map((it) => [it, valueOf(at(`field-${it}`))]));
-    const version = at("version").value || undefined;
-    const micro = at("micro").checked && version === undefined, mask = at("mask").value;
-    const options = { level: at("level").value, version, micro,
-        boost: at("boost").checked && version === undefined,
-        marked: at("marked").checked, mask: mask === "" ? null : Number(mask) };
+    const version = at("version").value || undefined, mask = at("mask").value;
+    const options = { level: at("level").value, version, micro: at("micro").checked,
+        boost: at("boost").checked, marked: at("marked").checked,
+        mask: mask === "" ? null : Number(mask) };
     const made = form.make(values, options);
     if (form.most && !(Number(made.version) <= form.most))
         throw new QrError("NoRoom", `The code has version ${made.version}: such codes have at most `
@@ -135,6 +139,7 @@ function isLarge({ logo: { area }, width }) {
 function draw() {
     let failure = null, svg = "";
     code = null;
+    limitBoxes();
     try {
         drawOptions("png");
         const made = make();
