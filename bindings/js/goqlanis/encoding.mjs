@@ -240,12 +240,13 @@ function noRoom(call, it, said) {
     const helps = helpsOf(call, it);
     if (helps.length > 0)
         return `${text}; ${helps.join(" or ")} holds them`;
-    const several = { ...it, level: 0, min_version: 1, max_version: 40, count: 0 };
-    const areHeld = isData && it.manner !== AS_MARKED_TEXT
-        && ask(askParts, several, SEVERAL_MAX)[0] === "OK";
-    return `${text}; no level holds them`
-        + (areHeld ? ": encodeSequence splits them over several codes" : "");
+    return `${text}; no level holds them` + (isData && it.manner !== AS_MARKED_TEXT && areHeld(it)
+        ? ": encodeSequence splits them over several codes" : "");
 }
+
+/** Returns whether several codes together hold the data. */
+const areHeld = (it) => ask(askParts, { ...it, level: 0, min_version: 1, max_version: 40,
+    count: 0 }, SEVERAL_MAX)[0] === "OK";
 
 /** Names the smallest version, and the highest level, that would hold the data. */
 function helpsOf(call, it) {
@@ -271,10 +272,12 @@ function mostBytes(it) {
 
 function refusedParts(it, found) {
     const last = versionName(it.max_version);
+    const helps = [it.max_version < 40 && "a larger version", it.level > 0 && "a lower level",
+        it.count % 16 > 0 && "more codes"].filter(Boolean).join(", or ");
     if (found === "NO_ROOM")
-        return refusal(found, `${grouped(it.data.length)} bytes: ${it.count || 16} codes up to `
-            + `version ${last} at level ${LEVELS[it.level]} do not hold them; take a larger version or `
-            + `a lower level${it.count % 16 ? ", or more codes" : ""}`);
+        return refusal(found, `${grouped(it.data.length)} bytes: ${areHeld(it)
+            ? `${it.count || 16} codes up to version ${last} at level ${LEVELS[it.level]} do not hold them; take ${helps}`
+            : "16 codes of version 40 at level L hold at most 47,216, more of digits or capitals"}`);
     return refusal(found, found !== "NO_SUCH_VERSION" ? "" : `versions ${versionName(it.min_version)} `
         + `to ${last}: several codes have versions 1 to 40, the smallest first`);
 }

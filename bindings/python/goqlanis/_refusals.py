@@ -1,6 +1,6 @@
 """Error messages for data that is rejected: what is wrong, why, and what would help."""
 from dataclasses import replace
-from typing import Any
+from typing import Any, Union
 
 from ._asked import SETS, Data, Parts, Segments, Text
 from ._checks import LEVELS, version_name
@@ -86,7 +86,7 @@ def _no_room(asked: Any, said: str) -> str:
     return f"{text}; no level holds them"
 
 
-def _are_held(asked: Data) -> bool:
+def _are_held(asked: Union[Data, Parts]) -> bool:
     """Returns whether several symbols together hold the data."""
     return Parts(asked.given, 0, manner=asked.manner).answer()[0] == 0
 
@@ -117,9 +117,12 @@ def _most(asked: Data) -> int:
 def of_parts(asked: Parts, answer: int) -> Error:
     level, last = LEVELS[asked.level], version_name(asked.max_version)
     if answer == NO_ROOM:
-        return refusal(answer, f"{len(asked.given):,} bytes: {asked.wanted or 16} codes up to "
-                       f"version {last} at level {level} do not hold them; take a larger version "
-                       "or a lower level" + (", or more codes" if asked.wanted % 16 else ""))
+        helps = {"a larger version": asked.max_version < 40, "a lower level": asked.level,
+                 "more codes": asked.wanted % 16}
+        text = (f"{asked.wanted or 16} codes up to version {last} at level {level} do not hold "
+                f"them; take {', or '.join(filter(helps.get, helps))}") if _are_held(asked) else \
+            "16 codes of version 40 at level L hold at most 47,216, more of digits or capitals"
+        return refusal(answer, f"{len(asked.given):,} bytes: {text}")
     if answer == NO_SUCH_VERSION:
         return refusal(answer, f"versions {version_name(asked.min_version)} to {last}: several "
                        "codes have versions 1 to 40, the smallest first")
