@@ -54,7 +54,7 @@ const TRIALS = {
     gs1: (it) => it.encodeGs1([["01", "09501101530003"], ["10", "ABC"]]).modules,
     svg: (it) => it.encode(text).svg(),
     png: (it) => it.encode("01234567").png({ scale: 20 }),
-    payload: (it) => it.wifi({ ssid: "Guests", password: "secret" }),
+    payload: (it) => it.wifi({ ssid: "Guests", password: "pass;word" }),
     read: (it) => it.read(it.encode("01234567").png())[0].data,
     check: (it) => `${it.check(it.encode("01234567").png())[0]}`,
     join: (it) => it.join(it.encodeSequence("01234567", { count: 2 })),
@@ -154,7 +154,7 @@ note("the package goes on after a trap",
 /* Many calls, and the memory as it was; each tenth call is refused. */
 const code = goqlanis.encode("seat 12");
 const calls = [() => goqlanis.encode("seat 12"), () => code.svg(), () => code.mask,
-    () => goqlanis.wifi({ ssid: "Guests", password: "secret" }), () => goqlanis.readSquare(code),
+    () => goqlanis.wifi({ ssid: "Guests", password: "pass;word" }), () => goqlanis.readSquare(code),
     () => goqlanis.encode("12345", { micro: true }),
     () => code.reserve({ left: 9, top: 9, width: 1, height: 1 }),
     () => goqlanis.checkSquare(code), () => goqlanis.gs1([["10", "ABC"]]),

@@ -20,7 +20,10 @@ export function payload(kind, fields) {
     if (CAUSES[said]?.[2])
         throw wrongField(said, names[at] ?? "text");
     refuse(said);
-    return checks.textOf(data);
+    const text = checks.textOf(data);
+    if (text.startsWith("WIFI:T:WPA;") && /^.{1,7}$/su.test(given.password))
+        console.warn("password: it has fewer than 8 characters, which WPA needs");
+    return text;
 }
 
 /** Returns the answer of a call, and what it writes or the place of what is wrong; `given` puts its

@@ -5,12 +5,12 @@ goqlanis.contents writes the text for Wi-Fi networks, contacts, payments and mor
 codes of a picture, a symbol or a square of modules:
 
 >>> import goqlanis
->>> symbol = goqlanis.encode(goqlanis.contents.wifi("Guests", "secret"), "H")
+>>> symbol = goqlanis.encode(goqlanis.contents.wifi("Guests", "secret12"), "H")
 >>> symbol.version, symbol.level, symbol.width
 ('4', 'H', 33)
 >>> symbol.save("code.png", scale=8, border=4, dark="#008", light=None, dpi=300)
 >>> [code.text for code in goqlanis.read("code.png")]
-['WIFI:T:WPA;S:Guests;P:secret;;']
+['WIFI:T:WPA;S:Guests;P:secret12;;']
 
 Each reason why the library rejects something is a subclass of goqlanis.Error (help(goqlanis.errors)
 lists them), and its message says what would help. help(goqlanis.encode), help(goqlanis.Symbol) and

@@ -6,9 +6,9 @@ amounts a comma.
 
 >>> import goqlanis
 >>> from goqlanis import contents
->>> text = contents.wifi("mynetwork", "mypass")
+>>> text = contents.wifi("mynetwork", "mypassword")
 >>> text
-'WIFI:T:WPA;S:mynetwork;P:mypass;;'
+'WIFI:T:WPA;S:mynetwork;P:mypassword;;'
 >>> goqlanis.encode(text).version
 '3'
 
@@ -21,6 +21,7 @@ Traceback (most recent call last):
 goqlanis.contents.WrongCheckDigits: iban: the check digits do not match: look for a mistyped or \
 swapped digit
 """
+import warnings
 from typing import Iterable, NamedTuple, Optional, Tuple, Union
 
 from ._payloads import (ControlCharacter, EmptyField, Number, OutOfRange, Time, TooLong,
@@ -39,13 +40,16 @@ def wifi(ssid: str, password: str = "", security: str = "", hidden: bool = False
     """Returns the text of a Wi-Fi network.
 
     `security` is "open" (or "nopass", "none"), "WEP", "WPA" (or "WPA2") or "WPA3", in upper or
-    lower case; the default is "WPA" if there is a password, otherwise "open". `hidden` says that
-    the network does not broadcast its name.
+    lower case; the default is "WPA" if there is a password, otherwise "open". An empty password is
+    none. `hidden` says that the network does not broadcast its name.
 
     >>> wifi('"foo;bar\\\\baz"', hidden=True)
     'WIFI:T:nopass;S:\\\\"foo\\\\;bar\\\\\\\\baz\\\\";H:true;;'
     """
-    return text_of("wifi", locals())
+    text = text_of("wifi", locals())
+    if text.startswith("WIFI:T:WPA;") and len(password) < 8:
+        warnings.warn("password: it has fewer than 8 characters, which WPA needs", stacklevel=2)
+    return text
 
 
 def mecard(family: str, given: str = "", phone: str = "", email: str = "", url: str = "",
