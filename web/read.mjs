@@ -1,6 +1,7 @@
 /* Reads and checks the codes of a picture. */
 
 import { check, read } from "./goqlanis/index.mjs";
+import { picturesOf } from "./goqlanis/reading.mjs";
 import { at, made } from "./forms.mjs";
 
 const LINK = /^(https?|mailto|tel|sms|geo|upi):/i;
@@ -73,25 +74,25 @@ async function pixelsOf(file) {
     return context.getImageData(0, 0, canvas.width, canvas.height);
 }
 
-/** Returns what is said about a picture, and an item for each code. */
-function readingOf(picture) {
-    let found = [], failure = null, checks = [];
-    try {
-        found = read(picture);
-    } catch (error) {
-        failure = error;
-    }
-    try {
-        checks = check(picture);
-    } catch (error) {
-        failure ??= error;
-    }
-    if (failure !== null && checks.length === 0)
-        throw new Error(`${failure.message}${HELP[failure.name] ?? ""}`);
-    const said = failure !== null
-        ? `No code was read: ${failure.message}. What it shows was checked:`
-        : found.length === 1 ? "1 code:" : `${found.length} codes:`;
-    return { said, codes: checks.map((it, index) => itemOf(found[index], it)) };
+/** Returns what is said about a file, and an item for each code in its pictures. */
+function readingOf(file) {
+    const pictures = ArrayBuffer.isView(file) ? picturesOf(file) : [file], failures = [];
+    const tried = (call) => (picture, at) => {
+        try {
+            return call(picture);
+        } catch ({ name, message }) {
+            const of = pictures.length > 1 ? `picture ${at + 1}: ` : "";
+            failures.push(`${of}${message}${HELP[name] ?? ""}`);
+            return [];
+        }
+    };
+    const [found, checks] = [read, check].map((call) => pictures.map(tried(call)));
+    if (checks.flat().length === 0)
+        throw new Error(failures[0]);
+    const count = found.flat().length, wrong = [...new Set(failures)].join("; ");
+    return { said: count === 0 ? `No code was read: ${wrong}. What it shows was checked:`
+        : `${count} ${count === 1 ? "code" : "codes"}${wrong && `; ${wrong}`}:`,
+    codes: checks.flatMap((own, at) => own.map((it, index) => itemOf(found[at][index], it))) };
 }
 
 function itemOf(code, checked) {

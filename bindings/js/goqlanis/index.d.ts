@@ -226,7 +226,7 @@ export type Picture = Data | { width: number; height: number; data: Uint8Clamped
 export type Square = QrCode | Iterable<Iterable<boolean | number>> | Exclude<Data, string>;
 /** Returns the codes in a picture, or in all pictures of a PBM or PGM file, in order. Of more than
     64 codes in a picture some may be missed. Throws NotPicture, BrokenPicture, NoSquare or another
-    cause. */
+    cause, unless other pictures of the file have codes: then it warns on the console. */
 export function read(picture: Picture): Found[];
 /** A square that looks like a code but does not decode: modules per side, the pixels of its upper
     left corner, and why. */

@@ -45,15 +45,19 @@ export function missed(picture) {
     });
 }
 
-/** Returns all that `ask` finds in a picture, or in all pictures of a file. */
+/** Returns what `ask` finds in all pictures of a file; warns of those not read if others are. */
 function withCodes(picture, ask) {
-    const pictures = picturesOf(fileOf(picture));
+    const pictures = picturesOf(fileOf(picture)), failures = [];
     const of = (at) => (pictures.length < 2 ? "" : `picture ${at + 1}: `);
-    return pictures.flatMap((it, at) => inPicture(it, of(at), ask));
+    const found = pictures.flatMap((it, at) => inPicture(it, of(at), ask, failures));
+    if (failures.length === pictures.length)
+        throw failures[0];
+    failures.forEach((it) => console.warn(it.message));
+    return found;
 }
 
-/** Returns the pictures in a file: PBM and PGM files may have several. */
-function picturesOf(file) {
+/** Returns the pictures in a file of bytes: PBM and PGM files may have several. */
+export function picturesOf(file) {
     return within((buffers) => {
         const place = buffers.bytes(file), found = [];
         let at = 0;
@@ -68,18 +72,20 @@ function picturesOf(file) {
     });
 }
 
-/** Calls `ask` with room for more and more codes until there is enough; `of` begins messages. */
-function inPicture(picture, of, ask) {
+/** Calls `ask` with more and more room; `of` begins messages, `failures` gets what is not read. */
+function inPicture(picture, of, ask, failures) {
     for (let most = 2; ; most *= 8) {
         const found = within((buffers) => {
             const [said, make] = ask(buffers, [buffers.bytes(picture), picture.length], most);
             if (said === "SMALL_BUFFER")
                 return null;
-            if (said === "NO_SUCH_SIDE")
-                throw refusal(said,
-                    "the picture shows no code: what it shows is not the size of a code", of);
-            refuse(said, of);
-            return make();
+            if (said === "OK")
+                return make();
+            if (said === "OUT_OF_MEMORY")
+                throw refusal(said);
+            failures.push(refusal(said, said !== "NO_SUCH_SIDE" ? ""
+                : "the picture shows no code: what it shows is not the size of a code", of));
+            return [];
         });
         if (found !== null)
             return found;

@@ -8,7 +8,7 @@ from ._checks import LEVELS, version_name
 from ._library import Checked, Checks, library
 from ._numbers import BLOCKS_MAX
 from .errors import refuse
-from .reading import PICTURES, Modules, Picture, _file_of, _modules_of, _pictures, _refuse_picture
+from .reading import PICTURES, Modules, Picture, _file_of, _found, _modules_of, _refuse_picture
 
 LINES = """\
 version {0.version}, level {0.level}, mask {0.mask}
@@ -103,7 +103,7 @@ def check(picture: Union[Picture, Modules, Any]) -> Union[List[Check], Check]:
     """
     file = _file_of(picture)
     if file is not None:
-        return [found for it in _pictures(file) for found in _checks(*it)]
+        return _found(file, _checks)
     modules, known = _modules_of(picture, PICTURES), Checked()
     wrong = (ctypes.c_size_t * BLOCKS_MAX)()
     refuse(library.goq_check_square(modules, len(modules), wrong, len(wrong), ctypes.byref(known)))

@@ -149,8 +149,8 @@ def read(picture: Union[Picture, Modules, Any]) -> Union[List[Code], Reading]:
     which are read in order. For a symbol, or for rows of modules without a quiet zone, each True or
     1 if it is dark, the result is a single `Reading`.
 
-    Raises a subclass of Unread if a picture has nothing that can be read, and OSError if a file
-    cannot be opened.
+    Raises a subclass of Unread if nothing can be read, and OSError if a file cannot be opened. A
+    UserWarning tells which of several pictures have nothing.
 
     >>> encode("https://example.org").save("a.png", scale=4)
     >>> [(code.text, code.version, code.level) for code in read("a.png")]
@@ -163,7 +163,7 @@ def read(picture: Union[Picture, Modules, Any]) -> Union[List[Code], Reading]:
     """
     file = _file_of(picture)
     if file is not None:
-        return [code for it in _pictures(file) for code in _codes(*it)]
+        return _found(file, _codes)
     modules, out, found = _modules_of(picture, PICTURES), _bytes(), Read()
     _refuse(library.goq_read(modules, len(modules), out, len(out), ctypes.byref(found)), modules)
     return _reading(out, found)
@@ -182,12 +182,12 @@ def missed(picture: Picture) -> List[Missed]:
     """Returns the squares in a picture that look like codes but do not decode, next to those that
     `read` returns.
 
-    Raises a subclass of Unread if no code of a picture decodes.
+    Raises a subclass of Unread if no code decodes.
     """
     file = _file_of(picture)
     if file is None:
         raise TypeError(f"missed takes {PICTURES.partition(', or ')[2]}")
-    return [square for it in _pictures(file) for square in _missed(*it)]
+    return _found(file, _missed)
 
 
 def _pictures(file: bytes, of: str = "") -> List[Tuple[bytes, str]]:
@@ -199,11 +199,26 @@ def _pictures(file: bytes, of: str = "") -> List[Tuple[bytes, str]]:
         at = ends[-1]
         ends.append(at + library.goq_picture_length(start + at, len(file) - at))
     if ends[-1] < len(file):
-        warnings.warn(f"{of}the file has data after its picture, which is ignored", stacklevel=3)
+        warnings.warn(f"{of}the file has data after its picture, which is ignored", stacklevel=4)
     if len(ends) == 2:
         return [(file[:ends[1]], of)]
     return [(file[at:end], f"{of}picture {number}: ")
             for number, (at, end) in enumerate(zip(ends, ends[1:]), 1)]
+
+
+def _found(file: bytes, find: Any) -> List[Any]:
+    """Returns what is found in all pictures; warns of those that are not read if others are."""
+    pictures, found, failures = _pictures(file), [], []
+    for picture in pictures:
+        try:
+            found.extend(find(*picture))
+        except errors.Unread as error:
+            failures.append(error)
+    if len(failures) == len(pictures):
+        raise failures[0]
+    for error in failures:
+        warnings.warn(str(error), stacklevel=3)
+    return found
 
 
 def _missed(picture: bytes, of: str) -> List[Missed]:
