@@ -50,6 +50,9 @@ function textOf(name, value) {
     if (value === true)
         return "true";
     if (value instanceof Date && !Number.isNaN(value.getTime())) {
+        const zone = value % 864e5 && 6e4 * value.getTimezoneOffset(); /* 0: it is a day of UTC */
+        if (name === "birthday")
+            return new Date(value - zone).toISOString().slice(0, 10);
         const [whole, rest] = value.toISOString().split(".");
         if (rest !== "000Z")
             console.warn(`${name}: calendars have whole seconds: .${rest.slice(0, 3)} is left out`);

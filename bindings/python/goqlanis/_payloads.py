@@ -111,6 +111,8 @@ def _fields_of(name: str, value: Any) -> List[Tuple[str, Any]]:
         value = "" if value is None and name == "amount" else number(name, value)
     elif name in TIMES:
         value = time(name, value)
+    elif name == "birthday" and isinstance(value, datetime.date):
+        value = value.isoformat()[:10]
     return [(name, value)]
 
 

@@ -53,7 +53,7 @@ def wifi(ssid: str, password: str = "", security: str = "", hidden: bool = False
 
 
 def mecard(family: str, given: str = "", phone: str = "", email: str = "", url: str = "",
-           birthday: str = "", note: str = "", street: str = "", city: str = "", region: str = "",
+           birthday: Time = "", note: str = "", street: str = "", city: str = "", region: str = "",
            code: str = "", country: str = "") -> str:
     """Returns the text of a contact as MECARD.
 
@@ -68,7 +68,7 @@ def mecard(family: str, given: str = "", phone: str = "", email: str = "", url: 
 
 def vcard(name: str, family: str, given: str = "", organisation: str = "", phone: str = "",
           email: str = "", url: str = "", street: str = "", city: str = "", region: str = "",
-          code: str = "", country: str = "", note: str = "", title: str = "", birthday: str = "",
+          code: str = "", country: str = "", note: str = "", title: str = "", birthday: Time = "",
           mobile: str = "", work_phone: str = "", home_phone: str = "", nickname: str = "",
           fax: str = "") -> str:
     """Returns the text of a contact as vCard 3.0.
