@@ -184,8 +184,8 @@ enum {
     GOQ_VCARD = 2, /* a contact, as vCard 3.0 */
     GOQ_PAYMENT = 3, /* a SEPA credit transfer (EPC QR code); its symbol must have level M and at
                         most version 13 */
-    GOQ_BILL = 4, /* a Swiss QR-bill; its symbol must have level M and at most version 25; the
-                     Swiss cross is not drawn */
+    GOQ_BILL = 4, /* a Swiss QR-bill; its symbol must have level M and at most version 25; print it
+                     46 mm wide, without a quiet zone; the Swiss cross is not drawn */
     GOQ_MAIL = 5, /* an e-mail message */
     GOQ_GEO = 6, /* a location */
     GOQ_TEL = 7, /* a phone call */
@@ -240,7 +240,7 @@ enum {
 enum {
     GOQ_BILL_IBAN, /* of Switzerland or Liechtenstein */
     GOQ_BILL_NAME, /* the payee, up to 70 characters */
-    GOQ_BILL_STREET,
+    GOQ_BILL_STREET, /* the street, without the house number */
     GOQ_BILL_NUMBER, /* the house number */
     GOQ_BILL_CODE, /* the postal code */
     GOQ_BILL_CITY,
@@ -295,7 +295,7 @@ enum {
    payer enters one. */
 enum {
     GOQ_UPI_PAYEE, /* an address such as "name@bank" */
-    GOQ_UPI_NAME,
+    GOQ_UPI_NAME, /* the payee */
     GOQ_UPI_AMOUNT, /* in rupees */
     GOQ_UPI_NOTE,
     GOQ_UPI_REFERENCE, /* such as an order number */

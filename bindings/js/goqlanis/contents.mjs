@@ -18,7 +18,7 @@ export function payload(kind, fields) {
         return [PAYLOADS[kind].number, buffers.structs("goq_field", rows), rows.length];
     });
     if (CAUSES[said]?.[2])
-        throw wrongField(said, names[at] ?? "text");
+        throw wrongField(said, names[at] ?? "text", kind);
     refuse(said);
     const text = checks.textOf(data);
     if (text.startsWith("WIFI:T:WPA;") && /^.{1,7}$/su.test(given.password))
@@ -68,13 +68,13 @@ function textOf(name, value) {
 }
 
 /** Returns the error for a field: what is wrong, and what would help. */
-function wrongField(said, field) {
+function wrongField(said, field, kind) {
     const [name, why] = CAUSES[said];
-    const helps = said === "FIELD_RANGE" ? RANGES[field] ?? ""
+    const key = kind === "bill" ? field.replace(/^debtor|number$/gi, "").toLowerCase() : field;
+    const [helps, mark] = said === "FIELD_RANGE" ? [RANGES[field], ":"]
         : ["FIELD_TOO_LONG", "FIELD_TOO_SHORT", "FIELD_CHARACTER"].includes(said)
-            ? HINTS[field.replace(/^debtor(?=[A-Z])/, "").toLowerCase()] ?? HINTS[field] ?? "" : "";
-    const mark = said === "FIELD_RANGE" ? ":" : ";";
-    return new QrError(name, `${field}: ${why}${helps && `${mark} ${helps}`}`, field);
+            ? [HINTS[key], ";"] : [];
+    return new QrError(name, `${field}: ${why}${helps ? `${mark} ${helps}` : ""}`, field);
 }
 
 export function gs1(elements) {
