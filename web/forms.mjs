@@ -12,7 +12,7 @@ const OWN = { bic: "8 or 11 letters and digits; may be empty", birthday: "",
 const SPOKEN = [[/; no level holds them.*$/, ""], [/ marked and eci/, ' "Mark text as UTF-8"'],
     [/take scale: /, "take pixels per module: "], [/quietZone/g, "quiet zone"],
     [/; write it with its zone, .*$/, ""],
-    [/^end: it is outside what the format allows/, "end: it is not after the beginning"]];
+    [/^end: it is outside what the .*$/, "end: it is not after the beginning"]];
 const MODES = { phone: "tel", number: "tel", mobile: "tel", workPhone: "tel", homePhone: "tel",
     email: "email", address: "email", url: "url", link: "url", amount: "decimal" };
 

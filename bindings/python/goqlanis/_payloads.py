@@ -168,7 +168,7 @@ def _lengths(identifier: bytes) -> str:
 
 # What would help, by the name of the field, in the words of the program.
 _FORMS = {name: said for names, said in FORMS for name in names.split()}
-_RANGES = {name: said for name, said in RANGES}
+_RANGES = {name: said for names, said in RANGES for name in names.split()}
 
 
 def _said(kind: Type[WrongField], field: str) -> str:
