@@ -266,5 +266,5 @@ function share() {
     const ids = ["kind", ...OPTIONS, ...fields];
     const state = Object.fromEntries(ids.map((it) => [it, valueOf(at(it))]));
     history.replaceState(null, "", `#${encodeURIComponent(JSON.stringify(state))}`);
-    tell("The address now holds the code.");
+    tell(`The address now holds the code${logo === null ? "" : " without its logo"}.`);
 }
