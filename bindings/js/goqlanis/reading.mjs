@@ -132,7 +132,7 @@ function fileOf(picture) {
     if (bytes !== null)
         return bytes;
     const { width, height, data } = picture ?? {};
-    if (!(width * height * 4 === data?.length))
+    if (!ArrayBuffer.isView(data) || width * height * 4 !== data.length)
         throw new TypeError(`a picture is bytes of a file, or ImageData, not ${shown(picture)}`);
     const head = checks.utf8("head", `P5 ${width} ${height} 255\n`);
     const file = new Uint8Array(head.length + width * height);
