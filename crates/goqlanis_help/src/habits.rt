@@ -40,13 +40,14 @@ exam: Python makes exams: python3 -m goqlanis exam FOLDER
 --lines --header --columns --field: this command makes no codes of lines
 --manual --completions: ./install and the packages put the manual and completions in place
 --rotate: only damage turns codes, with --turn 90; other codes are drawn upright
---bind --box: only the code is drawn; leave it out
---square --dotty --dotsize --dots --rounded --shape --style: codes and modules are always square; leave it out
+--bind --box --frame: only the code is drawn; leave it out
+--square --dotty --dotsize --dots --round --rounded --shape --style: codes and modules are always square; leave it out
 --separator: for the colour of separators, add --finder-light; nothing else sets them
 --dark-module: for the colour of the dark module, add --format-dark
 --encoding: text is UTF-8; to mark it, add --eci; for another, --charset iso-8859-1
 --width --height: for pixels per side, add --size
 --scalexdimdp --xdim: for the side of a module, add --module 0.5mm
+--gradient: each kind of module has one colour, which --dark and --light set
 --caption --label: only the code is drawn; put text beside it in the page or on the label
 --address --addr --adr: for an e-mail address, --email; for a postal one, --street, --code and --city
 --to --number: for a phone number, add --phone
