@@ -1,6 +1,7 @@
 //! Warnings on standard error; the code is drawn anyway.
 
 use crate::asked::{Job, Source, Target};
+use crate::charsets::charset_named;
 use crate::formats::ending_format;
 use crate::report::Sizes;
 use goqlanis_files::doubted;
@@ -31,12 +32,7 @@ pub fn warn(rt: &HostRuntime, asked: &Job<'_, '_>) -> Result<(), Failure> {
     if let Source::Text(text) = asked.input.source {
         warn_of_text(rt, asked, text)?;
     }
-    let choice = asked.request.choice;
-    if let (true, Choice::From(least) | Choice::Boosted(least)) = (asked.input.is_eci, choice) {
-        if least.is_micro() {
-            doubted!(rt, doubts; "Micro QR has no ECI: with --eci, the smallest version is 1")?;
-        }
-    }
+    warn_of_micro(rt, asked)?;
     let title = asked.request.frame.title;
     if asked.input.lines.is_some() && title.contains('{') && title.contains('}') {
         doubted!(rt, doubts; "all codes have the same title: in it, {{}} stands for itself")?;
@@ -50,6 +46,21 @@ pub fn warn(rt: &HostRuntime, asked: &Job<'_, '_>) -> Result<(), Failure> {
         }
     }
     Ok(())
+}
+
+// Warns of `--micro` with an ECI.
+fn warn_of_micro(rt: &HostRuntime, asked: &Job<'_, '_>) -> Result<(), Failure> {
+    let option = match asked.input.charset {
+        _ if asked.input.is_eci => "--eci",
+        Some(name) if charset_named(name).is_some() => "--charset",
+        _ => return Ok(()),
+    };
+    match asked.request.choice {
+        Choice::From(least) | Choice::Boosted(least) if least.is_micro() => doubted!(rt,
+            asked.doubts; "Micro QR has no ECI: with {option}, the smallest version is 1"
+        ),
+        _ => Ok(()),
+    }
 }
 
 // Warns of a text that may be meant as standard input or as the name of a file.
