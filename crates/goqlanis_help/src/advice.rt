@@ -65,6 +65,10 @@ pub fn advise(alloc: Global, task: &Task, words: &[String], error: &Error) -> Re
 impl Rejected<'_> {
     // Explains a word that the task does not take.
     fn refuse_word(&self, word: &str) -> Result<(), Failure> {
+        let behind = self.words.iter().skip_while(|given| **given != "--");
+        if word.starts_with('-') && behind.skip(1).any(|given| *given == word) {
+            return usage!(self.alloc; "{word}: options stand before --; behind it is only data");
+        }
         self.check_dash(word)?;
         self.check_known(word)?;
         if self.task.word.is_empty() {
@@ -242,11 +246,13 @@ impl Rejected<'_> {
     fn refuse_other(&self, word: &str) -> Result<(), Failure> {
         let (alloc, name) = (self.alloc, self.task.word);
         let space = if name.is_empty() { "" } else { " " };
+        let is_negative = is_number(word.strip_prefix('-').unwrap_or(""));
         let mut words = self.words.iter();
         match self.task.operand() {
-            _ if is_number(word.strip_prefix('-').unwrap_or("")) => {
-                usage!(alloc; "{word}: no value is negative here")
-            }
+            Some(("TEXT", _)) if is_negative => usage!(alloc;
+                "{word}: no value is negative here; a text that begins with - stands behind --"
+            ),
+            _ if is_negative => usage!(alloc; "{word}: no value is negative here"),
             _ if word.starts_with('-') => {
                 usage!(alloc; "{word}: no such option; goqlanis{space}{name} --help lists them")
             }
