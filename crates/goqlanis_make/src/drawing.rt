@@ -197,10 +197,10 @@ fn gs1_code(
     let Ok(text) = str::from_utf8(data) else {
         return refused!(alloc; "ELEMENTS: they are not UTF-8");
     };
-    let text = text.trim_end_matches('\n');
     if let Some(indicator) = indicator {
         return application_code(alloc, request, indicator, text);
     }
+    let text = text.trim_end_matches('\n');
     if text.starts_with("http") {
         return refused!(alloc;
             "ELEMENTS: a GS1 Digital Link is a plain text: goqlanis \"https://..\""
