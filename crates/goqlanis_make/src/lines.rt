@@ -15,6 +15,7 @@ use goqlanis_tables::names::{Template, check_made, common_form};
 use goqlanis_tables::pages::Pages;
 use goqlanis_tables::rows::{LineFields, is_loose, loose};
 use goqlanis_tables::tables::Table;
+use std::alloc::Global;
 use std::collections::BTreeSet;
 use std::fs;
 use std::io::{BufRead, BufReader, Read};
@@ -83,9 +84,19 @@ fn draw_from<'a, R: Read + Drop>(
         Target::File(path) if output.has_files => named(rt.alloc(), path, flush_folder(rt, path)),
         _ => output.pages.series.end(rt, drawn.is_ok(), true),
     };
-    let code = drawn?;
+    let code = of_document(rt.alloc(), path, drawn)?;
     ended?;
     Ok(code)
+}
+
+// Returns what was drawn; if it is refused, says that the document at `path` is left out.
+fn of_document(alloc: Global, path: Option<&str>, drawn: Done<ExitCode>) -> Done<ExitCode> {
+    match (drawn, path) {
+        (Err(Failure::Refused(why)), Some(path)) => refused!(alloc;
+            "{why}; {path} is not written"
+        ),
+        (drawn, _) => drawn,
+    }
 }
 
 impl<'a> Output<'a> {
