@@ -271,12 +271,13 @@ pub(crate) fn draw_reported(
     check_side(rt.alloc(), asked, &code)?;
     let area = area_in(rt.alloc(), asked, &code)?;
     let bytes = match asked.work {
-        _ if asked.is_dry => None,
+        // What is in the middle may have no room.
+        _ if asked.is_dry && area.is_none() => None,
         Work::Damaged(damage) => Some(draw_damaged(rt, asked, damage, &code)?),
         _ => {
             let bytes = draw_code(rt.alloc(), asked, &code, area)?;
             warn_of_logo(rt, asked, &code, area)?;
-            Some(bytes)
+            Some(bytes).filter(|_| !asked.is_dry)
         }
     };
     show_report(rt, asked, &code, area, coded)?;
