@@ -10,8 +10,9 @@ use goqlanis_request::areas::{LogoError, LogoSize, LogoWish, logo_area, roomier}
 use goqlanis_request::overlays::cross_size;
 use qrcode::QrCode;
 use qrcode::types::{EcLevel, Version};
-use qrcode_damage::areas::Rectangle;
+use qrcode_damage::areas::{Area, Rectangle};
 use qrcode_damage::excess::Excess;
+use qrcode_damage::reserve::reserve_of;
 use std::alloc::{AllocError, Global};
 
 // Whether a logo gets a fourth of the code's side, or else the largest area that may show anything.
@@ -109,7 +110,29 @@ pub(crate) fn area_in(
     }
 }
 
-/// Warns of a logo whose longer side is less than a tenth of the code's.
+// Warns of an area that touches more codewords of a block than the standard lets readers correct:
+// in small codes it keeps some for misdecode protection.
+fn warn_of_readers(
+    rt: &HostRuntime,
+    asked: &Job<'_, '_>,
+    code: &QrCode,
+    area: Rectangle,
+) -> Done<()> {
+    let areas = [area];
+    let reserve = reserve_of(rt.alloc(), code, &Area::of(&areas))?;
+    let (touched, blocks) = (reserve.most, reserve.touched.len().max(1));
+    let allowed = code.max_allowed_errors() / blocks;
+    if touched <= allowed {
+        return Ok(());
+    }
+    doubted!(rt, asked.doubts;
+        "the area covers {touched} codewords of a block, of which readers need only correct \
+        {allowed}; use a higher level, or version 3 or larger"
+    )
+}
+
+/// Warns of an area that other readers need not correct, and of a logo whose longer side is less
+/// than a tenth of the code's.
 ///
 /// Errors: `Refused` if warnings are errors; `OutOfMemory`.
 pub(crate) fn warn_of_logo(
@@ -118,8 +141,11 @@ pub(crate) fn warn_of_logo(
     code: &QrCode,
     area: Option<Rectangle>,
 ) -> Done<()> {
-    let logo = asked.logo.as_ref().filter(|logo| logo.file.is_some());
-    let (Some(area), Some(logo)) = (area, logo) else {
+    let Some(area) = area else {
+        return Ok(());
+    };
+    warn_of_readers(rt, asked, code, area)?;
+    let Some(logo) = asked.logo.as_ref().filter(|logo| logo.file.is_some()) else {
         return Ok(());
     };
     let (width, height) = logo_sides(logo, area);
