@@ -38,7 +38,10 @@ def questions():
     asked = [it for at, own in enumerate(exam.values()) for it in own[3 * at % len(own):][:3]]
     kinds = {it.name.split("-")[2] for it in asked}
     found = [complaint(it, asked[at // 3 * 3].symbol) for at, it in enumerate(asked)]
-    is_whole = len(exam) == 168 and len(kinds) == 9
+    # Where no segment is full, few symbols have no room for 13 bits more.
+    read = [reading.read_headed(square_of(it.symbol)) for it in asked[::3]]
+    full = sum(len(bits.bits) - said.length < 13 for bits, said in read)
+    is_whole = len(exam) == 168 and len(kinds) == 9 and 3 * full > len(exam)
     return found + ["no exam"] * (not is_whole), f"{len(asked)} symbols"
 
 
