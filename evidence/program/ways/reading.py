@@ -17,6 +17,8 @@ NOT_HEADERS = ("segment: ", "goqlanis: warning: ")
 # By their numbers in crowds.turned.
 POSITIONS = ("upright", "mirrored", "flipped", "upside down", "transposed", "rotated left",
              "rotated right", "antitransposed")
+# Of the dark and the light ring of a finder pattern.
+CORNERS = [*product((0, 6), repeat=2), *product((1, 5), repeat=2)]
 
 
 def checks_are_those_of_the_judge(program):
@@ -81,9 +83,9 @@ def symbols_of_other_encoders_are_read(program):
 
 
 def large_pictures_are_read(program):
-    """The most digits are read as a PGM file of 32 MB, as PBM files, and as half blocks."""
+    """The most digits are read: PGM of 32 MB, PBM, PNG of 65 million pixels, and half blocks."""
     digits, words = FILES["digits"], ["-l", "L", "-q", "80", "-f"]
-    forms = (["pgm", "-s", "17"], ["pbm", "-s", "17"], ["half-blocks"])
+    forms = (["pgm", "-s", "17"], ["pbm", "-s", "17"], ["png", "-s", "24"], ["half-blocks"])
     pictures = [run(program, [*words, *form], "/", digits).stdout for form in forms]
     pictures.append(figures(program, digits))
     is_large = len(pictures[0]) > 32 * 2**20 - 10**6
@@ -257,21 +259,24 @@ def _stretched(pixels, modules, rows):
 
 def codes_of_uneven_pixels_beside_another_are_read(program):
     """At two and a half pixels a module M1, version 40, version 20 with three finder patterns among
-    its data, and with wrong modules in a timing pattern; at 1.2 pixels version 1; at two pixels one
-    with a wrong module in the middle row of a finder pattern."""
+    its data or half of a timing pattern wrong, and version 1 with twelve wrong modules in a finder
+    pattern; at 1.2 pixels version 1, and at two one with a wrong module in the middle row of it."""
     other = square(program, "-v", "1", "hi")
     decoyed, spoilt = (square(program, "-v", "20", "-l", "H", "decoys") for _ in range(2))
-    pierced = square(program, "-v", "1", "pierced")
+    pierced, bored = (square(program, "-v", "1", "pierced") for _ in range(2))
     pierced[3][1] ^= 1
+    for x, y in (*CORNERS, (2, 1), (4, 1), (2, 5), (4, 5)):
+        bored[y][x] ^= 1
     for row, line in zip(decoyed, other[:8]):
         for left in (21, 39, 57):
             row[left:left + 9] = [0, *line[:7], 0]
-    for place in range(10, 30, 2):
+    for place in range(10, 90, 2):
         spoilt[6][place] ^= 1
     for code, pixels, modules, said in (
             (square(program, "-v", "M1", "12"), 5, 2, "12"), (decoyed, 5, 2, "decoys"),
             (square(program, "-v", "40", "large"), 5, 2, "large"), (spoilt, 5, 2, "decoys"),
-            (square(program, "-v", "1", "small"), 6, 5, "small"), (pierced, 2, 1, "pierced")):
+            (square(program, "-v", "1", "small"), 6, 5, "small"), (pierced, 2, 1, "pierced"),
+            (bored, 5, 2, "pierced")):
         page = _stretched(pixels, modules, _beside(code, other))
         yield _lines_read(program, page) == sorted([said, "hi"])
 
@@ -295,11 +300,9 @@ def a_quarter_of_a_turned_finder_pattern_may_be_wrong(program):
     """Its corners, those of its light ring, and the middles of its sides: twelve modules that lines
     through its middle across, down and along the diagonals of the picture do not cross."""
     rows = [[*row] for row in SYMBOLS["one.pbm"]]
-    corners = [*product((0, 6), repeat=2), *product((1, 5), repeat=2)]
-    for x, y in (*corners, (3, 0), (0, 3), (6, 3), (3, 6)):
+    for x, y in (*CORNERS, (3, 0), (0, 3), (6, 3), (3, 6)):
         rows[y][x] ^= 1
-    ran = run(program, ["read"], "/", slanted((rows, 100, 90, 22.5, 5)))
-    return ran.stdout == b"half one"
+    return run(program, ["read"], "/", slanted((rows, 100, 90, 22.5, 5))).stdout == b"half one"
 
 
 def codes_that_nearly_touch_are_read(program):
