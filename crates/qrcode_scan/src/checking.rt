@@ -1,9 +1,10 @@
 //! Checks the codes of a picture against the standard.
 
-ghost use Rattle.std.specs.Prelude.{◌≡◌, ◌≤◌, ◌∷◌, [], All, length, IfErr, IfOk};
+ghost use Rattle.std.specs.Prelude.{◌≡◌, ◌≤◌, ◌∷◌, [], All, AllPairs, length, IfErr, IfOk};
 ghost use Rattle.std.specs.List.{AllZip};
 ghost use Rattle.qrcode_scan.specs.Checked.{AreChecksOf, HasSquare, IsCheckOfScan, IsSquareCheckOf, IsUncheckedPicture};
-ghost use Rattle.qrcode_scan.specs.Codes.{IsMissedOf};
+ghost use Rattle.qrcode_scan.specs.Codes.{AreTwo, FindsWholesOf, IsMissedOf};
+ghost use Rattle.qrcode_scan.specs.Scans.{has_faults};
 
 use crate::codes::{Codes, read_codes};
 use crate::scanning::{Scan, ScanError, seen_in};
@@ -30,30 +31,35 @@ pub fn check_codes(alloc: Global, bytes: &[u8]) -> Result<Checks, ScanError>
     ensures each { IfOk result (λ found.
         AreChecksOf bytes.now found.codes.scans.items found.checks.items) }
     ensures some { IfOk result (λ found. 1 ≤ length found.checks.items) }
+    ensures once { IfOk result (λ found. AllPairs AreTwo found.codes.scans.items) }
+    ensures whole { IfOk result (λ found. FindsWholesOf bytes.now found.codes.scans.items) }
     ensures missed { IfOk result (λ found. All (IsMissedOf bytes.now) found.codes.missed.items) }
+    ensures more { IfOk result (λ found. found.codes.has_faults ≡ has_faults bytes.now) }
     ensures causes { IfErr result (IsUncheckedPicture bytes.now) }
 {
     match read_codes(alloc, bytes) {
         Ok(codes) => Ok(checked(alloc, codes)?),
         Err(ScanError::NoSymbol(_, qrcode_reader::Unread::NotSpelled)) => {
-            Ok(only(alloc, unspelled(alloc, bytes)?)?)
+            let (check, has_faults) = unspelled(alloc, bytes)?;
+            Ok(only(alloc, check, has_faults)?)
         }
         Err(cause) => Err(cause),
     }
 }
 
 // The check of a square that does not decode.
-fn only(alloc: Global, check: Check) -> Result<Checks, AllocError>
+fn only(alloc: Global, check: Check, has_faults: bool) -> Result<Checks, AllocError>
     ensures checks { IfOk result (λ found. found.checks.items ≡ check ∷ []) }
     ensures scans { IfOk result (λ found. found.codes.scans.items ≡ []) }
     ensures missed { IfOk result (λ found. found.codes.missed.items ≡ []) }
+    ensures more { IfOk result (λ found. found.codes.has_faults ≡ has_faults) }
 {
     Ok(Checks {
         checks: vec![in alloc; check]?,
         codes: Codes {
             scans: Vec::new(alloc),
             missed: Vec::new(alloc),
-            has_faults: false,
+            has_faults,
         },
     })
 }
@@ -85,9 +91,10 @@ fn check_scan(alloc: Global, scan: &Scan) -> Result<Check, AllocError>
 }
 
 // Checks the square in a plain margin. Its bits can be read, although they are no headers and
-// segments, so only memory can fail.
-fn unspelled(alloc: Global, bytes: &[u8]) -> Result<Check, AllocError>
-    ensures { IfOk result (IsSquareCheckOf bytes.now) }
+// segments, so only memory can fail. Also says whether a PNG file has faults.
+fn unspelled(alloc: Global, bytes: &[u8]) -> Result<(Check, bool), AllocError>
+    ensures check { IfOk result (λ found. IsSquareCheckOf bytes.now found.0) }
+    ensures more { IfOk result (λ found. found.1 ≡ has_faults bytes.now) }
 {
     let Ok(seen) = seen_in(alloc, bytes) else {
         return Err(AllocError);
@@ -96,7 +103,7 @@ fn unspelled(alloc: Global, bytes: &[u8]) -> Result<Check, AllocError>
         return Err(AllocError);
     };
     match check_square(alloc, &square.modules) {
-        Ok(check) => Ok(check),
+        Ok(check) => Ok((check, seen.has_faults)),
         Err(_) => Err(AllocError),
     }
 }

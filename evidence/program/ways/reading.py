@@ -132,24 +132,24 @@ def png_files_with_faults_beside_the_picture_are_read(program):
     with a warning; so are a wrong check sum of a chunk that readers need not know, several pHYs
     and a zlib stream without its check sum, or a part of it, and the place of pHYs without one.
     The picture itself is not touched: a wrong check sum of image data is an error."""
-    rows = SYMBOLS["one.pbm"]
-    whole, row = png.file_of(rows, 0, 8), bytes(1 + 3 * (len(rows) + 8))
-    density = bytes(3) + b"\1" + bytes(3) + b"\1\1"
-    dense = png.with_chunk(whole, b"pHYs", density)
-    ways = ((whole + b"PK\5\6" + bytes(18), True),
-            (png.with_stream(whole, lambda it: it + b"\0"), True),
-            (png.with_stream(whole, lambda it: zlib.compress(zlib.decompress(it) + row)), True),
-            (whole.replace(b"a code", b"a mode"), True),
-            (png.with_chunk(dense, b"pHYs", density), True),
-            (png.with_stream(whole, lambda it: it[:-4]), True),
-            (png.with_stream(whole, lambda it: it[:-1]), True),
-            (png.with_chunk(whole, b"pHYs", bytes(8) + b"\1", b"IDAT"), False))
     warning = (b"goqlanis: warning: standard input has extra or faulty data beside its picture, "
                b"which is ignored\n")
-    text = run(program, ["read"], "/", whole).stdout
-    return text and all(
-        (ran.returncode, ran.stdout, ran.stderr) == (0, text, warning if has_faults else b"")
-        for ran, has_faults in ((run(program, ["read"], "/", it), has) for it, has in ways))
+    density = bytes(3) + b"\1" + bytes(3) + b"\1\1"
+    for command, name in (("read", "one.pbm"), ("check", "one.pbm"), ("check", "run.pbm")):
+        whole, row = png.file_of(SYMBOLS[name], 0, 8), bytes(1 + 3 * (21 + 8))
+        dense = png.with_chunk(whole, b"pHYs", density)
+        ways = ((whole + b"PK\5\6" + bytes(18), True),
+                (png.with_stream(whole, lambda it: it + b"\0"), True),
+                (png.with_stream(whole, lambda it: zlib.compress(zlib.decompress(it) + row)), True),
+                (whole.replace(b"a code", b"a mode"), True),
+                (png.with_chunk(dense, b"pHYs", density), True),
+                (png.with_stream(whole, lambda it: it[:-4]), True),
+                (png.with_stream(whole, lambda it: it[:-1]), True),
+                (png.with_chunk(whole, b"pHYs", bytes(8) + b"\1", b"IDAT"), False))
+        own = run(program, [command], "/", whole)
+        yield own.stdout and not own.stderr and all(
+            (ran.returncode, ran.stdout, ran.stderr) == (own.returncode, own.stdout, warning * has)
+            for ran, has in ((run(program, [command], "/", it), has) for it, has in ways))
 
 
 def _with_empty_block(stream):
