@@ -1,5 +1,4 @@
-/* QR and Micro QR codes: encode, draw, read and check them. All calls that the library exports are
-   proved correct.
+/* QR and Micro QR codes: encode, draw, read, check. All calls of the library are proved correct.
 
    Buffers: every call works in buffers of the caller; there is nothing to free. A pointer points to
    as many items as the length after it says, and may be NULL if that length is 0. Buffers must not
@@ -898,8 +897,7 @@ goq_answer goq_damage(uint8_t *modules, size_t modules_length, const goq_wrong *
 
 /* -- Calls with defaults --
 
-   These are made of the calls above, here in the header: the library does not export them. They are
-   tested, not proved. */
+   These are made of the calls above, not exported by the library: tested, not proved. */
 
 /* Encodes `data` like goq_encode_with, at the error correction level `level` (GOQ_L .. GOQ_H), in
    the smallest Normal version that holds it. Errors: GOQ_NO_SUCH_LEVEL, GOQ_NO_ROOM. */
