@@ -10,7 +10,7 @@ const KINDS = { ...FORMATS,
     light: { number: LIGHT_HALF_BLOCKS, isText: true, scale: 1, hasColours: false },
     grey: { number: GREY, isText: false, scale: 8, hasColours: false } };
 const TRANSPARENT = 0xff000000, BLACK = 0x000000, WHITE = 0xffffff, MOST_SIDE = 65535;
-/* No colour of its own; the most pixels a side of PNG with colours of patterns, and points of PDF. */
+/* No colour of its own; the most pixels a side of PNG with own colours, and points of PDF. */
 const SAME = 0xffffffff, MOST_COLOURFUL = 8192, MOST_POINTS = 14400;
 /* The options of colours of patterns and data, and their names in the struct; false is SAME. */
 const PARTS = new Map(STRUCTS.goq_drawing.split(" ").slice(7)
