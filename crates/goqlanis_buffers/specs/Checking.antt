@@ -1,5 +1,5 @@
 -- What the calls for C report of codes that are checked.
-use Rattle.std.specs.Prelude.{◌≡◌, ◌⊎◌, ◌<◌, ◌≤◌, ℕ, List, flat_map, length, Option, Some, None, Result, IfOk, IfErr, OnErr, IsTrue}
+use Rattle.std.specs.Prelude.{◌≡◌, ◌⊎◌, ◌<◌, ◌≤◌, ℕ, List, flat_map, length, Option, Some, None, Result, IfOk, IfErr, OnErr, IsTrue, AllPairs}
 use Rattle.std.specs.Int.{from_bool}
 use Rattle.std.specs.List.{AllZip}
 use Rattle.qrcode_types.specs.Versions.{has_level}
@@ -13,6 +13,7 @@ use Rattle.qrcode_check.specs.declared.correction.Grade.{Grade}
 use Rattle.qrcode_check.specs.declared.correction.Grade.TheVariants.{A, B, C, D, F}
 use Rattle.qrcode_check.specs.declared.segments.BitUse.{BitUse}
 use Rattle.qrcode_scan.specs.Checked.{AreChecksOf, IsUncheckedPicture}
+use Rattle.qrcode_scan.specs.Codes.{AreTwo, FindsWholesOf}
 use Rattle.qrcode_scan.specs.declared.scanning.Scan.{Scan}
 use Rattle.goqlanis_buffers.specs.Answers.{IsSquareCause}
 use Rattle.goqlanis_buffers.specs.Calls.{Writes}
@@ -81,6 +82,8 @@ pub record IsChecked (picture : List ℕ) (size : ℕ) (told : List Checked) (wr
   pub scans : List Scan
   pub said : AreChecksOf picture scans checks
   pub some : 1 ≤ length checks
+  pub once : AllPairs AreTwo scans
+  pub whole : FindsWholesOf picture scans
   pub each : AreToldChecks checks told
   pub blocks : wrong ≡ flat_map wrong_counts checks
 
